@@ -1,5 +1,5 @@
 -- The number of indexes among those below a bound, by the missing places.
-use Rattle.rinex_inspect.proofs.Names.{All-push, All-weaker, is_among, number_among, sum_by-append, ◌≡◌, ◌∙◌, ◌+◌, ◌-◌, ◌<◌, ◌≤◌, ◌∷◌, ◌++◌, [], ap, ap₂, arith, refl, subst, sym, ℕ, List, Bool, cond, All, ◌==◌, ◌||◌, false, true, zero, suc, inl, inr, All-head, All-nil, All-tail, ◌≢◌, ◌⊎◌, list_any-append}
+use Rattle.rinex_inspect.proofs.Names.{All-push, All-weaker, is_among, number_among, sum_by-append, ◌≡◌, ◌∙◌, ◌+◌, ◌-◌, ◌<◌, ◌≤◌, ◌∷◌, ◌++◌, [], ap, arith, refl, subst, ℕ, List, Bool, cond, All, ◌==◌, ◌||◌, false, true, zero, suc, inl, inr, All-head, All-nil, All-tail, ◌≢◌, ◌⊎◌, list_any-append, common_steps}
 
 abbrev one_if : Bool → ℕ
 one_if b = cond b 1 0
@@ -25,11 +25,7 @@ above j m h = grind (arith, h)
 -- a number that isn't below the bound doesn't count
 number_kept : (xs : List ℕ) (j m : ℕ) → m ≤ j → number_among (xs ++ j ∷ []) m ≡ number_among xs m
 number_kept xs j zero h = refl
-number_kept xs j (suc m) h =
-    let other = among_more xs j m ∙ differs j m (above j m (omega (arith, h))) (is_among xs m) in
-    number_next (xs ++ j ∷ []) m
-    ∙ ap₂ (λ (a : ℕ) (b : Bool). a + one_if b) (number_kept xs j m (omega (arith, h))) other
-    ∙ sym (number_next xs m)
+number_kept xs j (suc m) h = grind (arith, common_steps, among_more, differs, above, number_next, number_kept xs j m (omega (arith, h)))
 
 same_number : (j m : ℕ) → (j == m) ≡ true → j ≡ m
 same_number j m e = grind (arith, e)

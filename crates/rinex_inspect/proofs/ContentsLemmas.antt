@@ -1,5 +1,5 @@
 -- The contents of the table of epochs, and equal contents.
-use Rattle.rinex_inspect.proofs.Names.{common_steps, ◌≡◌, ◌∙◌, ◌+◌, ◌*◌, ◌/◌, ◌%◌, ◌^◌, ◌<◌, ◌≤◌, ◌++◌, ◌∷◌, [], ℕ, Bool, true, false, zero, suc, List, cond, get_or, length, map, refl, ap, ap₂, sym, subst, arith, add-one, append_assoc, append-nil, is_some, codes, decimal, All, filter, flat_map, nat_lt, count_by, sum_by, length-append, length-map, All-append, All-filter, All-head, All-nil, All-tail, count_by-le-length, sum_by-cons, div-lt_iff_lt-mul, mod-lt, few_below, below, PlanValue, planned_of, System, Satellite, letter, satellites, line, most_signals, table, systems, AreFine, rows_in, most_lines, AreSatelliteRows, AreSignalValues, IsPlan, IsSatelliteRow, planned_in, SatelliteRow, SignalValues, Stamped, no_signal_values, present_line, signal_line, Contents, code_at, contents_of, presence_words, satellite_word, tally_words, lost_in, period_line, period_lines, satellite_line, tally_line, texts_below, all_rows, has_values, is_half, is_lost, is_row_of, satellite_at, strength_of, tally_of, total, values_in, Period, Table, Presence, Tally, IsPrintable, IsSmallTally, all_lines, line_at, line_count, IsTableOf, capped_tally, contents_in, ints, flat_map-cons, div-mul-add, mod-mul-add, Lines}
+use Rattle.rinex_inspect.proofs.Names.{common_steps, ◌≡◌, ◌∙◌, ◌+◌, ◌*◌, ◌/◌, ◌%◌, ◌^◌, ◌<◌, ◌≤◌, ◌++◌, ◌∷◌, [], ℕ, Bool, true, false, zero, suc, List, cond, get_or, length, map, refl, ap, ap₂, sym, subst, arith, add-one, append_assoc, append-nil, is_some, codes, decimal, All, filter, flat_map, nat_lt, count_by, sum_by, length-append, length-map, All-append, All-filter, All-head, All-nil, All-tail, count_by-le-length, sum_by-cons, div-lt_iff_lt-mul, mod-lt, few_below, below, PlanValue, System, Satellite, letter, satellites, line, most_signals, systems, AreFine, rows_in, most_lines, AreSatelliteRows, AreSignalValues, IsPlan, IsSatelliteRow, planned_in, SatelliteRow, SignalValues, Stamped, no_signal_values, present_line, signal_line, Contents, code_at, contents_of, presence_words, satellite_word, tally_words, lost_in, period_line, period_lines, satellite_line, tally_line, texts_below, all_rows, has_values, is_half, is_lost, is_row_of, satellite_at, strength_of, tally_of, total, values_in, Period, Table, Presence, Tally, IsPrintable, IsSmallTally, all_lines, line_at, line_count, IsTableOf, capped_tally, contents_in, ints, flat_map-cons, div-mul-add, mod-mul-add, Lines}
 use Rattle.rinex_inspect.proofs.TallyLemmas.{tally_is}
 use Rattle.rinex_inspect.proofs.QualityTexts.{few_satellites}
 use Rattle.rinex_inspect.proofs.SumLemmas.{one_small_of, sum_add, sum_bound, sum_mono, sum_same, sum_suc, texts_more, texts_same}
@@ -20,12 +20,8 @@ strong_at (e ∷ es) (suc k) all = strong_at es k (All-tail AreSignalValues e es
 
 module _ (p : PlanValue) (s : Satellite) (k : ℕ) where
   strengths : (rows : List SatelliteRow) → AreRows p rows → sum_by (λ e. strength_of e.s) (map (values_in k) (filter (is_row_of s) rows)) ≤ 99999 * length rows
-  strengths [] all = omega arith
-  strengths (r ∷ rows) all = by (strengths rows (All-tail (IsSatelliteRow (planned_in p)) r rows all)) (is_row_of s r) (strong_at r.row.signal_values k (All-head (IsSatelliteRow (planned_in p)) r rows all).row.signal_values) where
-    by : sum_by (λ e. strength_of e.s) (map (values_in k) (filter (is_row_of s) rows)) ≤ 99999 * length rows → (b : Bool) → strength_of (values_in k r).s ≤ 99999
-        → sum_by (λ e. strength_of e.s) (map (values_in k) (cond b (r ∷ filter (is_row_of s) rows) (filter (is_row_of s) rows))) ≤ 99999 * length (r ∷ rows)
-    by rest true one = let sum = sum_by-cons (λ (e : SignalValues). strength_of e.s) (values_in k r) (map (values_in k) (filter (is_row_of s) rows)) in omega (arith, rest, one, sum)
-    by rest false one = omega (arith, rest)
+  strengths [] all = grind (arith, common_steps)
+  strengths (r ∷ rows) all = grind (arith, common_steps, All-tail, strong_at, All-head, sum_by-cons, strengths rows (All-tail (IsSatelliteRow (planned_in p)) r rows all))
 
 length_rows : (es : List Stamped) → length (all_rows es) ≡ rows_in es
 length_rows [] = refl
@@ -114,9 +110,7 @@ table_contents p t es few is = record {
 }
 
 pub few_planned : (p : PlanValue) → IsPlan p → (s : System) → planned_in p s ≤ most_signals
-few_planned p is s = let a = few_below (length (table s)) (planned_of s p) (is.listed s) (is.apart s) in let b = short s in omega (arith, a, b) where
-  short : (s : System) → length (table s) ≤ most_signals
-  short s = grind arith
+few_planned p is s = grind (arith, common_steps, few_below)
 
 -- ---- equal contents have equal lines
 

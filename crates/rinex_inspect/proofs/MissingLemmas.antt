@@ -1,5 +1,5 @@
 -- The gaps and the missing places of epochs, with one epoch more, and of a whole file.
-use Rattle.rinex_inspect.proofs.Names.{IsStrictlyIncreasing, zero-add, div-le_self, div-mul-le_self, le-div_iff_mul-le, IsCompleteness, all_gaps, all_placed, early, ends_in, first_of, gap_between, gap_line, gaps_before, gaps_from, indexes_of, intervals_to, number_among, origin_in, origin_of, placed, start, window_size, all_gaps_if, gaps_if, size_of, times_in, size_in, end_line, line, with_words, moment_words, CheckOptions, complete_but, end_gap_if, end_missing_if, line_but, CountsMissing, IsEndOutput, codes, decimal, events_in, rows_in, Counts, AreCounts, FileValue, length, lt-ltb, IsFileValue, check_line, complete_if, complete_line, times_if, ltb-false, ltb-true, Rise, first_with, gap_with, gaps_to_end, last_with, missing_before, missing_between, missing_from, missing_if, missing_to_end, missing_with, origin_with, Completeness, Placed, Window, ◌≡◌, ◌∙◌, ◌+◌, ◌-◌, ◌<◌, ◌≤◌, ◌∷◌, ◌++◌, [], ap, ap₂, append-nil, append_assoc, arith, refl, subst, sym, ℕ, List, Bool, Option, Some, None, cond, map, map-append, AreTimes, AreTimesOrNone, EpochTimes, IfSome, ◌/◌, false, true, suc, nat_lt, CountsWhatIsThere}
+use Rattle.rinex_inspect.proofs.Names.{IsStrictlyIncreasing, zero-add, div-le_self, div-mul-le_self, le-div_iff_mul-le, IsCompleteness, all_gaps, all_placed, early, ends_in, first_of, gap_between, gap_line, gaps_before, gaps_from, indexes_of, intervals_to, number_among, origin_in, origin_of, placed, start, window_size, all_gaps_if, gaps_if, size_of, times_in, size_in, end_line, with_words, moment_words, CheckOptions, complete_but, end_gap_if, end_missing_if, line_but, CountsMissing, IsEndOutput, codes, decimal, Counts, AreCounts, FileValue, lt-ltb, IsFileValue, check_line, complete_if, complete_line, times_if, ltb-false, ltb-true, Rise, first_with, gap_with, gaps_to_end, last_with, missing_before, missing_between, missing_from, missing_if, missing_to_end, missing_with, origin_with, Completeness, Placed, Window, ◌≡◌, ◌∙◌, ◌+◌, ◌-◌, ◌<◌, ◌≤◌, ◌∷◌, ◌++◌, [], ap, ap₂, append-nil, append_assoc, arith, refl, subst, sym, ℕ, List, Bool, Option, Some, None, cond, map, map-append, AreTimes, AreTimesOrNone, EpochTimes, IfSome, ◌/◌, suc, CountsWhatIsThere, common_steps}
 use Rattle.rinex_inspect.proofs.CompleteLemmas.{Covered, covered_more, none_covered}
 use Rattle.rinex_inspect.specs.Gaps.{capped, index_of}
 
@@ -25,10 +25,8 @@ last_is p (r ∷ qs) q = last_is r qs q
 module _ (g : Completeness) where
   -- the last epoch, from the times of the first and the last one
   last_of : (ts : List ℕ) (before : Option EpochTimes) (o : ℕ) → AreTimesOrNone ts before → last_placed (start o) (map (placed g o) ts) ≡ last_with g o before
-  last_of ts None o are = ap (λ l. last_placed (start o) (map (placed g o) l)) are
-  last_of ts (Some t) o are =
-      ap (λ l. last_placed (start o) (map (placed g o) l)) are.last.1
-      ∙ ap (last_placed (start o)) (map-append (placed g o) are.last.0 (t.last ∷ [])) ∙ last_is (start o) (map (placed g o) are.last.0) (placed g o t.last)
+  last_of ts None o are = grind (arith, common_steps)
+  last_of ts (Some t) o are = grind (arith, common_steps, last_is)
 
   first_is : (ts : List ℕ) (before : Option EpochTimes) (time : ℕ) → AreTimesOrNone ts before → first_of (ts ++ time ∷ []) ≡ first_with before time
   first_is ts None time are = ap (λ l. first_of (l ++ time ∷ [])) are
@@ -57,25 +55,12 @@ none_missed (Some g) = refl
 pub gaps_next : (complete : Option Completeness) (ts : List ℕ) (before : Option EpochTimes) (time : ℕ) → AreTimesOrNone ts before
     → gaps_if complete (ts ++ time ∷ []) ≡ gaps_if complete ts ++ gap_with complete before time
 gaps_next None ts before time are = refl
-gaps_next (Some g) ts before time are =
-    let o = origin_with g before time in
-    ap (λ (n : ℕ). gaps_from (start (origin_in g.window n)) (map (placed g (origin_in g.window n)) (ts ++ time ∷ []))) (first_is g ts before time are)
-    ∙ ap (gaps_from (start o)) (map-append (placed g o) ts (time ∷ []))
-    ∙ gaps_split (start o) (map (placed g o) ts) (placed g o time ∷ [])
-    ∙ ap₂ (λ (x y : List ℕ). x ++ y) (gaps_at g ts before time are)
-    (append-nil (gap_between (last_placed (start o) (map (placed g o) ts)) (placed g o time)) ∙ ap (λ p. gap_between p (placed g o time)) (last_of g ts before o are))
+gaps_next (Some g) ts before time are = grind (arith, common_steps, first_is, gaps_split, gaps_at, append-nil, last_of)
 
 pub missing_next : (complete : Option Completeness) (ts : List ℕ) (before : Option EpochTimes) (time : ℕ) → AreTimesOrNone ts before
     → missing_if complete (ts ++ time ∷ []) ≡ missing_if complete ts + missing_with complete before time
 missing_next None ts before time are = refl
-missing_next (Some g) ts before time are =
-    let o = origin_with g before time in
-    let last : missing_between (last_placed (start o) (map (placed g o) ts)) (placed g o time) + 0 ≡ missing_with (Some g) before time =
-    ap (λ p. missing_between p (placed g o time) + 0) (last_of g ts before o are) ∙ omega arith in
-    ap (λ (n : ℕ). missing_from (start (origin_in g.window n)) (map (placed g (origin_in g.window n)) (ts ++ time ∷ []))) (first_is g ts before time are)
-    ∙ ap (missing_from (start o)) (map-append (placed g o) ts (time ∷ []))
-    ∙ missing_split (start o) (map (placed g o) ts) (placed g o time ∷ [])
-    ∙ ap₂ (λ (x y : ℕ). x + y) (missing_at g ts before time are) last
+missing_next (Some g) ts before time are = grind (arith, common_steps, last_of, first_is, missing_split, missing_at)
 
 -- ---- times that rise
 
@@ -126,19 +111,10 @@ module _ (g : Completeness) (is : IsCompleteness g) (o : ℕ) where
   capped_least (Some w) n = omega arith
 
   index_small : (t : ℕ) → index_of g o t ≤ t + 500
-  index_small t =
-      let a = capped_least g.window (intervals_to g o t) in
-      let b = div-le_self ((t + early g) - o) g.interval in
-      omega (arith, a, b)
+  index_small t = grind (arith, common_steps, capped_least, div-le_self)
 
   few_missing : (ts : List ℕ) (time : ℕ) → Rise 0 (ts ++ time ∷ []) → missing_from (start o) (map (placed g o) (ts ++ time ∷ [])) ≤ time + 501
-  few_missing ts time rise =
-      let c = all_covered (ts ++ time ∷ []) rise in
-      let last : (last_placed (start o) (map (placed g o) (ts ++ time ∷ []))).place ≡ index_of g o time + 1 =
-      ap (λ (l : List Placed). (last_placed (start o) l).place) (map-append (placed g o) ts (time ∷ [])) ∙ ap (λ (p : Placed). p.place) (last_is (start o) (map (placed g o) ts) (placed g o time)) in
-      let small = index_small time in
-      let all = c.sum (last_placed (start o) (map (placed g o) (ts ++ time ∷ []))).place (omega arith) in
-      omega (arith, all, last, small)
+  few_missing ts time rise = grind (arith, common_steps, all_covered, last_is, index_small)
 
 pub missing_small : (complete : Option Completeness) (ts : List ℕ) (time : ℕ) → IfSome complete IsCompleteness → Rise 0 (ts ++ time ∷ []) → missing_if complete (ts ++ time ∷ []) ≤ time + 501
 missing_small None ts time is rise = omega arith
@@ -166,16 +142,10 @@ gap_some last time e = absurd cc
 
 -- no line is printed exactly if no place is missing
 no_gap : (p q : Placed) → gap_between p q ≡ [] → missing_between p q ≡ 0
-no_gap p q none = by (nat_lt (p.place + 1) q.place) refl none where
-  by : (b : Bool) → nat_lt (p.place + 1) q.place ≡ b → cond b (gap_line p.time q.time) [] ≡ [] → missing_between p q ≡ 0
-  by true e none = absurd (gap_some p.time q.time none)
-  by false e none = let h = ltb-false (p.place + 1) q.place e in omega (arith, h)
+no_gap p q none = grind (arith, common_steps, gap_some, ltb-false)
 
 pub none_missing : (p q : Placed) → missing_between p q ≡ 0 → gap_between p q ≡ []
-none_missing p q none = by (nat_lt (p.place + 1) q.place) refl where
-  by : (b : Bool) → nat_lt (p.place + 1) q.place ≡ b → cond b (gap_line p.time q.time) [] ≡ []
-  by true e = let h = ltb-true (p.place + 1) q.place e in absurd (omega (arith, h, none))
-  by false e = refl
+none_missing p q none = grind (arith, common_steps, ltb-true)
 
 -- the line of a gap after a text
 pub gap_is : (old : List ℕ) (p q : Placed) {start first second text : List ℕ} → p.place + 1 < q.place → start ≡ old ++ codes "gap" → first ≡ with_words start (moment_words p.time) → second ≡ with_words first (moment_words q.time)
@@ -201,8 +171,7 @@ no_gaps p (q ∷ qs) none =
 
 none_missing_from : (p : Placed) (qs : List Placed) → missing_from p qs ≡ 0 → gaps_from p qs ≡ []
 none_missing_from p [] none = refl
-none_missing_from p (q ∷ qs) none =
-    ap₂ (λ (x y : List ℕ). x ++ y) (none_missing p q (omega (arith, none))) (none_missing_from q qs (omega (arith, none)))
+none_missing_from p (q ∷ qs) none = grind (arith, common_steps, none_missing, none_missing_from q qs (omega (arith, none)))
 
 module _ (g : Completeness) (ts : List ℕ) (t : EpochTimes) (are : AreTimes ts t) where
   last_of_all : last_placed (start (origin_of g ts)) (all_placed g ts) ≡ placed g (origin_of g ts) t.last
@@ -215,14 +184,10 @@ module _ (g : Completeness) (ts : List ℕ) (t : EpochTimes) (are : AreTimes ts 
   end_is = last_of_all ∙ ap (λ (n : ℕ). placed g n t.last) origin_is
 
   pub all_gaps_are : all_gaps g ts ≡ gaps_before g ts ++ gaps_to_end g t
-  all_gaps_are =
-      gaps_split (start (origin_of g ts)) (all_placed g ts) (ends_in g.window g.interval)
-      ∙ ap (λ p. gaps_before g ts ++ gaps_from p (ends_in g.window g.interval)) end_is
+  all_gaps_are = grind (arith, common_steps, gaps_split, end_is)
 
   all_missing : missing_from (start (origin_of g ts)) (all_placed g ts ++ ends_in g.window g.interval) ≡ missing_before g ts + missing_to_end g t
-  all_missing =
-      missing_split (start (origin_of g ts)) (all_placed g ts) (ends_in g.window g.interval)
-      ∙ ap (λ p. missing_before g ts + missing_from p (ends_in g.window g.interval)) end_is
+  all_missing = grind (arith, common_steps, missing_split, end_is)
 
   -- the indexes of the file and those that are missing are all
   pub number_and_missing : IsCompleteness g → Rise 0 ts → number_among (indexes_of g ts) (size_of g t) + (missing_before g ts + missing_to_end g t) ≡ size_of g t
@@ -261,12 +226,8 @@ counts_what_is_there g v t is file are =
 file_gaps : (complete : Option Completeness) (ts : List ℕ) (t : EpochTimes) {missing after : ℕ} → IfSome complete IsCompleteness → Rise 0 ts → AreTimes ts t → CountsMissing complete ts missing → after ≡ end_missing_if complete t
     → (all_gaps_if complete ts ≡ gaps_if complete ts ++ end_gap_if complete t) × (complete_if complete ts t ≡ complete_but complete t missing after)
 unfolding complete_line line_but
-file_gaps None ts t is rise are counted rest = (refl, refl)
-file_gaps (Some g) ts t {missing} {after} is rise are counted rest =
-    let whole : number_among (indexes_of g ts) (size_of g t) + (missing_before g ts + missing_to_end g t) ≡ size_of g t = number_and_missing g ts t are is rise in
-    let before : missing ≡ missing_before g ts = counted rise in
-    let n : number_among (indexes_of g ts) (size_of g t) ≡ (size_of g t - missing) - after = omega (arith, whole, before, rest) in
-    (all_gaps_are g ts t are, ap (λ (k : ℕ). line (codes "complete" ∷ decimal k ∷ codes "of" ∷ decimal (size_of g t) ∷ [])) n)
+file_gaps None ts t is rise are counted rest = grind (arith, common_steps)
+file_gaps (Some g) ts t {missing} {after} is rise are counted rest = grind (arith, common_steps, number_and_missing, all_gaps_are)
 
 -- what is written at the end of a file
 pub end_output : (o : CheckOptions) (v : FileValue) (t : EpochTimes) {missing after : ℕ} {first counts times text : List ℕ} → IfSome o.complete IsCompleteness → IsFileValue v → AreTimes (times_in v.epochs) t
@@ -287,7 +248,4 @@ end_output o v t {missing} {after} {first} {counts} {times} {text} is file are c
 pub counts_are : (v : FileValue) (old : List ℕ) {a b c d e : List ℕ} {n : Counts} → AreCounts n v → a ≡ old ++ codes "epochs" → b ≡ a ++ 0x20 ∷ decimal n.epochs → c ≡ (b ++ 0x20 ∷ codes "satellites") ++ 0x20 ∷ decimal n.satellites
     → d ≡ (c ++ 0x20 ∷ codes "events") ++ 0x20 ∷ decimal n.events → e ≡ d ++ 0x0A ∷ [] → e ≡ old ++ check_line v
 unfolding check_line
-counts_are v old are e1 e2 e3 e4 e5 =
-    let words : List (List ℕ) = decimal (length v.epochs) ∷ codes "satellites" ∷ decimal (rows_in v.epochs) ∷ codes "events" ∷ decimal (events_in v.epochs) ∷ [] in
-    end_line old (codes "epochs") words e5
-    (e4 ∙ ap₂ (λ (l : List ℕ) (k : ℕ). (l ++ 0x20 ∷ codes "events") ++ 0x20 ∷ decimal k) (e3 ∙ ap₂ (λ (l : List ℕ) (k : ℕ). (l ++ 0x20 ∷ codes "satellites") ++ 0x20 ∷ decimal k) (e2 ∙ ap₂ (λ (l : List ℕ) (k : ℕ). l ++ 0x20 ∷ decimal k) e1 are.epochs) are.satellites) are.events)
+counts_are v old are e1 e2 e3 e4 e5 = grind (arith, common_steps, end_line)

@@ -56,9 +56,7 @@ pub period_same : (every : Option ℕ) (p : ℕ) (es : List Stamped) (e : Stampe
 period_same every p es e same = filter_yes (λ (x : Stamped). period_of every x.time == p) es e (eq-eqb (period_of every e.time) p same)
 
 pub period_other : (every : Option ℕ) (p : ℕ) (es : List Stamped) (e : Stamped) → p < period_of every e.time → in_period every p (es ++ e ∷ []) ≡ in_period every p es
-period_other every p es e less = filter_no (λ (x : Stamped). period_of every x.time == p) es e (apart (period_of every e.time) p less) where
-  apart : (a b : ℕ) → b < a → (a == b) ≡ false
-  apart a b h = grind (arith, h)
+period_other every p es e less = grind (arith, common_steps, filter_no)
 
 -- ---- lines
 

@@ -1,25 +1,15 @@
 -- Tables of epochs: none, one more, and one line more.
-use Rattle.rinex_inspect.proofs.Names.{get_or-set_other, get_or-set_same, ◌≡◌, ◌∙◌, ◌+◌, ◌-◌, ◌^◌, ◌<◌, ◌≤◌, ◌&&◌, ◌==◌, ◌++◌, ◌∷◌, [], ℕ, Bool, true, false, suc, List, get_or, length, refl, ap, sym, subst, arith, map, list_any, IsStrictlyIncreasing, and_from, and_parts, eq-eqb, eqb-false, eqb-true, ◌||◌, length-set, HasAdded, length-append, map-append, system_same, system_self, System, Satellite, satellites, index_of, is_system, rank_of, time_stamped, SatelliteRow, Stamped, with_read, times_in, has_line, is_row_of, last_of, satellite_at, SatelliteRecord, Table, Presence, HasAddedRow, IsBlankRecord, IsBlankTable, IsRecordOf, IsTableOf, begun, no_record, record_at, records_in}
+use Rattle.rinex_inspect.proofs.Names.{get_or-set_other, get_or-set_same, ◌≡◌, ◌∙◌, ◌+◌, ◌-◌, ◌^◌, ◌<◌, ◌≤◌, ◌==◌, ◌++◌, ◌∷◌, [], ℕ, Bool, true, false, suc, List, get_or, length, refl, ap, sym, subst, arith, map, list_any, IsStrictlyIncreasing, and_from, and_parts, eq-eqb, eqb-false, eqb-true, ◌||◌, length-set, HasAdded, length-append, map-append, system_same, system_self, System, Satellite, satellites, index_of, is_system, rank_of, time_stamped, SatelliteRow, Stamped, with_read, times_in, has_line, is_row_of, last_of, satellite_at, SatelliteRecord, Table, HasAddedRow, IsBlankRecord, IsBlankTable, IsRecordOf, IsTableOf, begun, no_record, record_at, records_in, common_steps}
 use Rattle.rinex_inspect.proofs.PresenceLemmas.{last_is}
 use Rattle.rinex_inspect.proofs.TableLemmas.{record_begun, record_other, record_this}
 
 -- ---- no epoch
 
 blank_record : (r : SatelliteRecord) (s : Satellite) → IsBlankRecord r → IsRecordOf r s []
-blank_record r s is = record {
-  size = is.size;
-  signals = λ k few. is.signals k few;
-  presence = is.presence;
-  before = λ some. let none = ap (λ (p : Presence). p.epochs) is.presence in absurd (omega (arith, none, some));
-}
+blank_record r s is = grind (arith, common_steps)
 
 pub blank_table : (t : Table) → IsBlankTable t → IsTableOf t []
-blank_table t is = record {
-  epochs = is.epochs;
-  time = is.time;
-  size = λ s. (is.records s).size;
-  each = λ s i few. blank_record (record_at t s i) (satellite_at s i) ((is.records s).each i few);
-}
+blank_table t is = grind (arith, common_steps, blank_record)
 
 -- ---- one epoch more
 
@@ -42,16 +32,7 @@ own row = record { system = row.system; id = row.row.satellite }
 module _ (t t2 : Table) (row : SatelliteRow) (add : HasAddedRow row t t2) (some : 1 ≤ row.row.satellite) where
   -- the record of another satellite
   kept : (s : System) (i : ℕ) → is_row_of (satellite_at s i) row ≡ false → record_at t2 s i ≡ record_at t s i
-  kept s i out = by (is_system s row.system) refl out where
-    by : (b : Bool) → is_system s row.system ≡ b → (b && (row.row.satellite == i + 1)) ≡ false → record_at t2 s i ≡ record_at t s i
-    by false e out = ap (λ (l : List SatelliteRecord). get_or l i no_record) (add.other s (λ same. let bad = system_self s row.system same in cc))
-    by true e out =
-        let same : s ≡ row.system = system_same s row.system e in
-        let at : get_or (records_in t2 row.system) i no_record ≡ get_or (records_in t row.system) i no_record =
-        ap (λ (l : List SatelliteRecord). get_or l i no_record) add.this.1 ∙ get_or-set_other (records_in t row.system) (row.row.satellite - 1) i add.this.0 no_record (λ here. apart here out) in
-        ap (λ (x : System). record_at t2 x i) same ∙ at ∙ ap (λ (x : System). record_at t x i) (sym same) where
-          apart : i ≡ row.row.satellite - 1 → (row.row.satellite == i + 1) ≡ false → ⊥
-          apart here out = eqb-false row.row.satellite (i + 1) out (omega (arith, here, some))
+  kept s i out = grind (arith, common_steps, system_self, system_same, get_or-set_other, eqb-false)
 
   pub table_added : (xs : List Stamped) (e : Stamped) → length xs < 2 ^ 62 → row.row.satellite ≤ satellites row.system → has_line (own row) e ≡ false → IsTableOf t (xs ++ e ∷ [])
       → IsTableOf t2 (xs ++ with_read e row ∷ [])

@@ -1,6 +1,6 @@
 //! The command `check`: whether the input is a file as `convert` writes it, its counts, the times
 //! of its epochs, and the gaps between them.
-ghost use Rattle.std.specs.Prelude.{◌≡◌, ◌+◌, ◌*◌, ◌<◌, ◌≤◌, ◌++◌, ◌∷◌, [], List, Option, ℕ, IfErr, IfOk, IfSome};
+ghost use Rattle.std.specs.Prelude.{◌≡◌, ◌+◌, ◌*◌, ◌<◌, ◌≤◌, ◌++◌, ◌∷◌, [], List, Option, ℕ, IfSome, MatchResult};
 ghost use Rattle.std.specs.Prelude.{is_some, true, length};
 ghost use Rattle.gnss_obs.specs.Weeks.{week, weeks};
 ghost use Rattle.line_texts.specs.Lines.{IsTextWithin};
@@ -9,7 +9,6 @@ ghost use Rattle.rinex_file.specs.Counting.{AreCounts, IsSummary};
 ghost use Rattle.rinex_file.specs.FileValues.{IsFileValue};
 ghost use Rattle.rinex_file.specs.Value.{FileValue, Stamped};
 ghost use Rattle.devices.specs.Devices.{Changes, Writes};
-ghost use Rattle.devices.specs.Printing.{EndsPrinting};
 ghost use Rattle.rinex_inspect.specs.CheckOutput.{check_line, counts_alone, times_if, times_in};
 ghost use Rattle.rinex_inspect.specs.Checking.{AcceptsFiles, EndsCheck, ReadsFile};
 ghost use Rattle.rinex_file.specs.inner.Read.EpochSteps.{HasReadEpochs};
@@ -19,7 +18,7 @@ ghost use Rattle.rinex_inspect.specs.DateTexts.{step_line, time_line};
 ghost use Rattle.rinex_inspect.specs.Gaps.{IsCompleteness, gap_between, is_inside};
 ghost use Rattle.rinex_inspect.specs.inner.Missing.{complete_but, end_gap_if, end_missing_if, first_with, gap_with};
 ghost use Rattle.rinex_inspect.specs.inner.Missing.{longest_gap, missing_between, missing_with};
-ghost use Rattle.rinex_inspect.specs.inner.Reading.{CountsMissing, IsEndOutput, ReadsGaps};
+ghost use Rattle.rinex_inspect.specs.inner.Reading.{CountsMissing, IsEndOutput, Prints, ReadsGaps};
 
 use crate::fault::FileFault;
 use crate::gaps::{Completeness, Placed, last_placed};
@@ -164,13 +163,10 @@ fn print_gap<W: Deliver>(
     time: GpsTime,
     writer: &mut Counted<W>,
 ) -> Result<u64, FileFault>
-    requires sent { W.waiting writer.old.inner ≡ [] }
     ensures fits { IfSome complete.now IsCompleteness }
-    ensures line { Writes W.contents W.waiting writer.old writer.new
-        (EndsPrinting FileFault.Write result (gap_with complete.now before time)) }
-    ensures missing { IfOk result (λ n. n ≡ missing_with complete.now before time) }
+    ensures line { Writes W.contents W.waiting writer.old writer.new (Prints result (gap_with complete.now before time)) }
+    ensures ends { MatchResult result (λ n. n ≡ missing_with complete.now before time) (λ _. is_some complete.now ≡ true) }
     ensures range { time < weeks * week }
-    ensures asked { IfErr result (λ _. is_some complete.now ≡ true) }
 {
     let Some(complete) = complete else {
         return Ok(0);
@@ -197,8 +193,7 @@ fn first_with(before: &Option<EpochTimes>, time: GpsTime) -> GpsTime
 /// epochs.
 fn add_gap(text: &mut OutputLine, last: Placed, next: Placed) -> u64
     requires { length text.old ≤ 100 }
-    ensures text { text.new ≡ text.old ++ gap_between last next }
-    ensures short { length text.new ≤ length text.old + longest_gap }
+    ensures text { IsTextWithin text.new (text.old ++ gap_between last next) (length text.old + longest_gap) }
     ensures missing { result ≡ missing_between last next }
 {
     let missing = next.place.saturating_sub(last.place).saturating_sub(1);
@@ -216,8 +211,7 @@ fn add_gap(text: &mut OutputLine, last: Placed, next: Placed) -> u64
 fn add_last_gap(text: &mut OutputLine, complete: &Option<Completeness>, times: &EpochTimes) -> u64
     requires { text.old ≡ [] }
     ensures fits { IfSome complete.now IsCompleteness }
-    ensures text { text.new ≡ end_gap_if complete.now times.now }
-    ensures short { length text.new ≤ longest_gap }
+    ensures text { IsTextWithin text.new (end_gap_if complete.now times.now) longest_gap }
     ensures missing { result ≡ end_missing_if complete.now times.now }
 {
     let Some(complete) = complete else {

@@ -51,8 +51,7 @@ impl Window {
     /// Returns the number of intervals of this length.
     fn size(&self, interval: u64) -> u64
         requires { 0 < interval }
-        ensures value { result ≡ window_size interval self.now }
-        ensures bound { result < weeks * week }
+        ensures { result ≡ window_size interval self.now }
     {
         let from = self.from.milliseconds();
         self.until.milliseconds().saturating_sub(from) / interval
@@ -90,8 +89,7 @@ impl Completeness {
 
     /// Returns how much before its time an epoch may be, in milliseconds.
     fn early(&self) -> u64
-        ensures value { result ≡ early self.now }
-        ensures bound { result ≤ 500 }
+        ensures { result ≡ early self.now }
     {
         (self.interval / 2).min(500)
     }
@@ -111,8 +109,7 @@ impl Completeness {
 
     /// Returns the index of an epoch that is this number of intervals after the origin.
     fn capped(&self, intervals: u64) -> u64
-        ensures value { result ≡ capped self.now.window self.now intervals }
-        ensures bound { result ≤ intervals }
+        ensures { result ≡ capped self.now.window self.now intervals }
     {
         match &self.window {
             Some(window) => intervals.min(window.size(self.interval).saturating_sub(1)),

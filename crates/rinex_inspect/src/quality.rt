@@ -1,7 +1,6 @@
 //! The command `quality`: what each signal and each satellite of a file has.
 ghost use Rattle.std.specs.Prelude.{◌≡◌, ◌≤◌, ◌<◌, ◌*◌, ◌+◌, ◌-◌, [], List, Option, ℕ, IfOk, IfSome, length, min};
 ghost use Rattle.devices.specs.Devices.{Changes, Writes};
-ghost use Rattle.devices.specs.Printing.{EndsPrinting};
 ghost use Rattle.gnss_obs.specs.Weeks.{week, weeks};
 ghost use Rattle.rinex_file.specs.Blocks.{LeavesRest, ReadsPrefix};
 ghost use Rattle.rinex_file.specs.Counting.{AreCounts};
@@ -13,6 +12,7 @@ ghost use Rattle.rinex_inspect.specs.QualityOutput.{period_of};
 ghost use Rattle.rinex_inspect.specs.inner.QualityLines.{IsPrintable};
 ghost use Rattle.rinex_inspect.specs.inner.Rating.{AreTables, IsStart, RatesEpoch, RatesNext, RatesPeriods, ReadsRows, end_text};
 ghost use Rattle.rinex_inspect.specs.inner.Rating.{period_text, whole_text};
+ghost use Rattle.rinex_inspect.specs.inner.Reading.{Prints};
 ghost use Rattle.gnss_obs.specs.Intervals.{IsInterval};
 ghost use Rattle.rinex_inspect.specs.inner.Tables.{IsTableOf};
 
@@ -241,9 +241,8 @@ fn print_period<W: Deliver>(
 ) -> Result<(), FileFault>
     requires fits { IsPrintable table.now (plan_of file.now) }
     requires within { IfSome every.now (λ n. period * n < weeks * week) }
-    requires sent { W.waiting writer.old.inner ≡ [] }
     ensures { Writes W.contents W.waiting writer.old writer.new
-        (EndsPrinting FileFault.Write result (period_text every.now (plan_of file.now) table.now period)) }
+        (Prints result (period_text every.now (plan_of file.now) table.now period)) }
 {
     match every {
         Some(every) => {
@@ -264,9 +263,8 @@ fn print_end<W: Deliver>(
 ) -> Result<(), FileFault>
     requires fits { IsPrintable tables.now.current (plan_of file.now) }
     requires within { IfSome every.now (λ n. tables.now.period * n < weeks * week) }
-    requires sent { W.waiting writer.old.inner ≡ [] }
     ensures { (v : FileValue) → AreCounts counts.now v → Writes W.contents W.waiting writer.old writer.new
-        (EndsPrinting FileFault.Write result (end_text every.now (plan_of file.now) tables.now v)) }
+        (Prints result (end_text every.now (plan_of file.now) tables.now v)) }
 {
     match every {
         Some(_) => print_period(every, &tables.current, tables.period, file, writer),
@@ -283,9 +281,8 @@ fn print_whole<W: Deliver>(
     counts: &Counts,
     writer: &mut Counted<W>,
 ) -> Result<(), FileFault>
-    requires sent { W.waiting writer.old.inner ≡ [] }
     ensures { (v : FileValue) → AreCounts counts.now v → Writes W.contents W.waiting writer.old writer.new
-        (EndsPrinting FileFault.Write result (whole_text (plan_of rated.now.file.now) rated.now.table.now v)) }
+        (Prints result (whole_text (plan_of rated.now.file.now) rated.now.table.now v)) }
 {
     let mut line = OutputLine::new();
     add_counts(&mut line, counts);

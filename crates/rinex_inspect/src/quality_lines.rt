@@ -2,7 +2,6 @@
 ghost use Rattle.std.specs.Prelude.{◌≡◌, ◌<◌, ◌≤◌, ◌+◌, ◌++◌, ◌∷◌, [], length, ℕ, get_or, ◌^◌};
 ghost use Rattle.std.specs.List.{count_by, sum_by};
 ghost use Rattle.devices.specs.Devices.{Writes};
-ghost use Rattle.devices.specs.Printing.{EndsPrinting};
 ghost use Rattle.gnss_obs.specs.Plans.{below};
 ghost use Rattle.gnss_system.specs.Satellites.{satellites};
 ghost use Rattle.gnss_system.specs.Signals.{most_signals};
@@ -14,6 +13,7 @@ ghost use Rattle.rinex_inspect.specs.QualityOutput.{presence_words, signal_line,
 ghost use Rattle.rinex_inspect.specs.Tallies.{has_values, no_tally, total};
 ghost use Rattle.rinex_inspect.specs.inner.QualityLines.{AreSmallTallies, IsPrintable, IsSmallTally, all_lines};
 ghost use Rattle.rinex_inspect.specs.inner.QualityLines.{line_at, line_count, longest_tally, system_lines};
+ghost use Rattle.rinex_inspect.specs.inner.Reading.{Prints};
 ghost use Rattle.rinex_inspect.specs.inner.Tables.{contents_in, no_record, tally_at};
 
 use crate::check::add_instant;
@@ -51,10 +51,8 @@ pub(crate) fn print_lines<W: Deliver>(
     rated: &Rated,
     writer: &mut Counted<W>,
 ) -> Result<(), FileFault>
-    requires sent { W.waiting writer.old.inner ≡ [] }
     ensures { Writes W.contents W.waiting writer.old writer.new
-        (EndsPrinting FileFault.Write result
-        (all_lines lines.now (plan_of rated.now.file.now) (contents_in rated.now.table.now))) }
+        (Prints result (all_lines lines.now (plan_of rated.now.file.now) (contents_in rated.now.table.now))) }
 {
     for i in 0..SYSTEMS.len() {
         print_system(lines, rated, System::at(i), writer)?;
@@ -69,10 +67,8 @@ fn print_system<W: Deliver>(
     system: System,
     writer: &mut Counted<W>,
 ) -> Result<(), FileFault>
-    requires sent { W.waiting writer.old.inner ≡ [] }
     ensures { Writes W.contents W.waiting writer.old writer.new
-        (EndsPrinting FileFault.Write result
-        (system_lines lines.now (plan_of rated.now.file.now) (contents_in rated.now.table.now) system)) }
+        (Prints result (system_lines lines.now (plan_of rated.now.file.now) (contents_in rated.now.table.now) system)) }
 {
     for index in 0..line_count(lines, rated, system) {
         print_if(&line_at(lines, rated, system, index), writer)?;
@@ -82,8 +78,7 @@ fn print_system<W: Deliver>(
 
 /// Writes a line, unless it is empty.
 fn print_if<W: Deliver>(text: &OutputLine, writer: &mut Counted<W>) -> Result<(), FileFault>
-    requires { W.waiting writer.old.inner ≡ [] }
-    ensures { Writes W.contents W.waiting writer.old writer.new (EndsPrinting FileFault.Write result text.now) }
+    ensures { Writes W.contents W.waiting writer.old writer.new (Prints result text.now) }
 {
     let bytes = text.as_bytes();
     if bytes.is_empty() {

@@ -1,7 +1,7 @@
 -- The reading of a file and the writing of its gaps: the devices were d and are d'.
-use Rattle.std.specs.Prelude.{◌≡◌, ◌++◌, ℕ, List, Option, Result, Ok, Err, IfSome, is_some, true}
-use Rattle.devices.specs.Devices.{Devices, ReaderFailures}
-use Rattle.devices.specs.Printing.{PrintsPart, PrintsText}
+use Rattle.std.specs.Prelude.{◌≡◌, ◌++◌, ℕ, [], List, Option, Result, Ok, Err, IfSome, is_some, true}
+use Rattle.devices.specs.Devices.{Devices, ReaderFailures, Writer}
+use Rattle.devices.specs.Printing.{EndsPrinting, PrintsPart, PrintsText}
 use Rattle.rinex_file.specs.Accepted.{AreFirstEpochs}
 use Rattle.rinex_file.specs.Counting.{IsTextWith}
 use Rattle.rinex_file.specs.Exact.{IfTextOfFile}
@@ -19,6 +19,10 @@ use Rattle.rinex_inspect.specs.declared.check.CheckOptions.{CheckOptions}
 use Rattle.rinex_inspect.specs.declared.fault.FileFault.{FileFault}
 use Rattle.rinex_inspect.specs.declared.fault.FileFault.TheVariants as faults
 use Rattle.rinex_inspect.specs.inner.Missing.{Rise, missing_if}
+
+-- if nothing waited in the writer, this text was written, or a part of it at a fault
+abbrev pub Prints : {A W : Type 0} → Result A FileFault → List ℕ → (w w' : Writer W) → Type 0
+Prints result text w w' = w.waiting ≡ [] → EndsPrinting faults.Write result text w w'
 
 -- this number of places is missing before the epochs at these times, which rise
 abbrev pub CountsMissing : Option Completeness → List ℕ → ℕ → Type 0

@@ -12,8 +12,7 @@ pub finish-requires : goal.finish-requires
 finish-requires c = omega (arith, size c.args.text.now (codes "gap") c.put.ensures, c.requires, c.add_instant.ensures.short, c.add_instant-then-missing-gt0.ensures.short)
 
 pub returns-then-missing-gt0-clause-text : goal.returns-then-missing-gt0-clause-text
-returns-then-missing-gt0-clause-text c =
-    gap_is c.args.text.now c.args.last c.args.next (omega (arith, c.if-missing-gt0.true, c.saturating_sub-missing.ensures, c.saturating_sub.ensures)) c.put.ensures c.add_instant.ensures.text c.add_instant-then-missing-gt0.ensures.text c.finish.ensures
-
-pub returns-then-missing-gt0-clause-short : goal.returns-then-missing-gt0-clause-short
-returns-then-missing-gt0-clause-short c = omega (arith, size c.args.text.now (codes "gap") c.put.ensures, size c.add_instant-then-missing-gt0.new.text (0x0A ∷ []) c.finish.ensures, c.add_instant.ensures.short, c.add_instant-then-missing-gt0.ensures.short)
+returns-then-missing-gt0-clause-text c = record {
+  text = gap_is c.args.text.now c.args.last c.args.next (omega (arith, c.if-missing-gt0.true, c.saturating_sub-missing.ensures, c.saturating_sub.ensures)) c.put.ensures c.add_instant.ensures.text c.add_instant-then-missing-gt0.ensures.text c.finish.ensures;
+  short = omega (arith, size c.args.text.now (codes "gap") c.put.ensures, size c.add_instant-then-missing-gt0.new.text (0x0A ∷ []) c.finish.ensures, c.add_instant.ensures.short, c.add_instant-then-missing-gt0.ensures.short);
+}

@@ -29,7 +29,7 @@ loop-before-preserved g c =
     let (e, same, next, first, least, plan) = c.in-Ok.ensures.rows es _ _ part in
     let time = same ∙ start in
     record {
-      read = (es ++ e ∷ [], next, printed_more (at c.args.writer.now) (at c.loop-before.writer) (at c.print_gap.new.writer) c.args.complete.now es e c.in-Ok-Epoch.before printed before time c.in_ok-print_gap-in-Ok-Epoch.was c.print_gap.ensures.line, counted_more c.args.complete.now es e c.in-Ok-Epoch.before c.print_gap.ensures.fits before time counts (rw c.in_ok-print_gap-in-Ok-Epoch.was at c.print_gap.ensures.missing) (λ fits. omega (arith, fits, c.saturating_add-missing.ensures)) (omega (arith, c.print_gap.ensures.range)), inside_more c.args.complete.now es e inside time (sym c.is_inside.ensures ∙ c.if-not-is_inside.false));
+      read = (es ++ e ∷ [], next, printed_more (at c.args.writer.now) (at c.loop-before.writer) (at c.print_gap.new.writer) c.args.complete.now es e c.in-Ok-Epoch.before printed before time c.in_ok-print_gap-in-Ok-Epoch.was (c.print_gap.ensures.line printed.1), counted_more c.args.complete.now es e c.in-Ok-Epoch.before c.print_gap.ensures.fits before time counts (rw c.in_ok-print_gap-in-Ok-Epoch.was at c.print_gap.ensures.ends) (λ fits. omega (arith, fits, c.saturating_add-missing.ensures)) (omega (arith, c.print_gap.ensures.range)), inside_more c.args.complete.now es e inside time (sym c.is_inside.ensures ∙ c.if-not-is_inside.false));
       reads = more_read (more_read inv.reads c.in-Ok-Epoch.ensures.reads) c.in-Ok.ensures.reads;
     }
 
@@ -40,13 +40,13 @@ returns-in_err-print_gap-in-Ok-Epoch-clause-gaps g c =
     let (es, read, printed, counts, inside) = inv.read in
     let (start, before, part, line, counted, kept) = begins_is c.loop-before.file c.begin.new.self es _ (g.R.Read.remaining c.begin.new.reader.inner) c.in-Ok-Epoch.field-0-is (c.in-Ok-Epoch.ensures.epochs es _ read) in
     let (e, same, next, first, least, plan) = c.in-Ok.ensures.rows es _ _ part in
-    let (write, text) = printed_more (at c.args.writer.now) (at c.loop-before.writer) (at c.print_gap.new.writer) c.args.complete.now es e c.in-Ok-Epoch.before printed before (same ∙ start) c.in_err-print_gap-in-Ok-Epoch.was c.print_gap.ensures.line in
+    let (write, text) = printed_more (at c.args.writer.now) (at c.loop-before.writer) (at c.print_gap.new.writer) c.args.complete.now es e c.in-Ok-Epoch.before printed before (same ∙ start) c.in_err-print_gap-in-Ok-Epoch.was (c.print_gap.ensures.line printed.1) in
     let both = devices_of g.R.Read.remaining g.W.Write.contents g.W.Deliver.waiting in
     let d = both c.args.reader.now c.args.writer.now in
     let d2 = both c.finish.new.reader c.print_gap.new.writer in
     passed c.from_residual.result _ (λ r. ReadsGaps c.finish.new.self r c.args.complete.now d d2) c.from_residual.ensures.1
     (subst (λ (f : FileFault). ReadsGaps c.finish.new.self (Err f) c.args.complete.now d d2) (sym write)
-    (es ++ e ∷ [], c.finish.new.self.count, rw c.in_err-print_gap-in-Ok-Epoch.was at c.print_gap.ensures.asked, first, text, (more_read (more_read inv.reads c.in-Ok-Epoch.ensures.reads) c.in-Ok.ensures.reads).same))
+    (es ++ e ∷ [], c.finish.new.self.count, rw c.in_err-print_gap-in-Ok-Epoch.was at c.print_gap.ensures.ends, first, text, (more_read (more_read inv.reads c.in-Ok-Epoch.ensures.reads) c.in-Ok.ensures.reads).same))
 
 pub returns-then-not-is_inside-clause-gaps : goal.returns-then-not-is_inside-clause-gaps
 returns-then-not-is_inside-clause-gaps g c =

@@ -7,14 +7,6 @@ use Rattle.rinex_inspect.proofs.quality.print_periods.Goals as goal
 pub loop-counts-init : goal.loop-counts-init
 loop-counts-init g c = record { read = ([], c.requires.start _, c.requires.tables, (refl, c.requires.sent, subst (Appends _ _) (sym (none_before c.args.every.now (plan_of c.args.file.now) c.requires.tables.interval)) (Appends-nil _))); reads = none_read _ _ }
 
-pub rate_next-requires-clause-sent : goal.rate_next-requires-clause-sent
-rate_next-requires-clause-sent g c = c.loop-counts.invariant.read.3.1
-
-pub rate_next-requires-clause-read : goal.rate_next-requires-clause-read
-rate_next-requires-clause-read g c =
-    let (es, read, tables, printed) = c.loop-counts.invariant.read in
-    (es, g.R.Read.remaining c.args.reader.now.inner, read, tables)
-
 pub loop-counts-smaller : goal.loop-counts-smaller
 loop-counts-smaller g c =
     let at = devices_of g.R.Read.remaining g.W.Write.contents g.W.Deliver.waiting in

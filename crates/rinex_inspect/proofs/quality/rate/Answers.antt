@@ -17,12 +17,12 @@ returns g c =
     record {
       ends = ended c.args.every.now (at c.args.reader.now c.args.writer.now) (at c.print_periods.new.reader c.print_end.new.writer) c.print_end.result has.v has.is has.text fine
           (subst (λ (l : List ℕ). EndsPrinting Write c.print_end.result l (w c.args.writer.now) (w c.print_end.new.writer)) (sym (output has.v has.holds))
-          (printed_after Write c.print_end.result (w c.args.writer.now) (w c.print_periods.new.writer) (w c.print_end.new.writer) (lines_before plan c.args.every.now es) (end_text c.args.every.now plan c.print_periods.new.tables has.v) printed (c.print_end.ensures has.v has.holds.0)));
+          (printed_after Write c.print_end.result (w c.args.writer.now) (w c.print_periods.new.writer) (w c.print_end.new.writer) (lines_before plan c.args.every.now es) (end_text c.args.every.now plan c.print_periods.new.tables has.v) printed (c.print_end.ensures has.v has.holds.0 printed.1)));
       left = search rules;
       only = λ v file few. IfSome_then (g.R.Read.remaining c.args.reader.now.inner) (only v file few) (λ input h same. let rated = h same in
           ended_or c.args.every.now (w c.args.writer.now) (w c.print_end.new.writer) c.print_end.result v
           (subst (λ (l : List ℕ). EndsPrinting Write c.print_end.result l (w c.args.writer.now) (w c.print_end.new.writer)) (sym (output v rated))
-          (printed_after Write c.print_end.result (w c.args.writer.now) (w c.print_periods.new.writer) (w c.print_end.new.writer) (lines_before plan c.args.every.now es) (end_text c.args.every.now plan c.print_periods.new.tables v) printed (c.print_end.ensures v rated.0))));
+          (printed_after Write c.print_end.result (w c.args.writer.now) (w c.print_periods.new.writer) (w c.print_end.new.writer) (lines_before plan c.args.every.now es) (end_text c.args.every.now plan c.print_periods.new.tables v) printed (c.print_end.ensures v rated.0 printed.1))));
     }
 
 pub returns-in_err-counts : goal.returns-in_err-counts

@@ -39,8 +39,8 @@ returns-in_err-print_period-clause-rates g c = λ es e input start rows tables.
     let new = c.read_rows-2.new.file in
     let after = later c.args.every.now (plan_of new) c.args.tables.now es whole tables (fine_with new es whole input (g.R.Read.remaining c.read_rows-2.new.reader.inner) read)
     (λ same. c.if-period-tables.false (c.period_of-period.ensures.number ∙ sym (ap (period_of c.args.every.now) at) ∙ same)) in
-    rated_in_part (record { period = c.args.tables.now.period; current = c.args.tables.now.current; next = c.read_rows-2.new.table }) c.args.every.now c.args.file.now new es c.args.time input (at_devices c.args.reader.now c.args.writer.now) (at_devices c.read_rows-2.new.reader c.print_period.new.writer) c.from_residual-in_err-print_period.result c.from_residual-in_err-print_period.ensures.1 c.in_err-print_period.ensures.0
-    (whole, read, first, plan, (period_text c.args.every.now (plan_of new) c.args.tables.now.current c.args.tables.now.period, after.lines, c.in_err-print_period.ensures.1))
+    rated_in_part (record { period = c.args.tables.now.period; current = c.args.tables.now.current; next = c.read_rows-2.new.table }) c.args.every.now c.args.file.now new es c.args.time input (at_devices c.args.reader.now c.args.writer.now) (at_devices c.read_rows-2.new.reader c.print_period.new.writer) c.from_residual-in_err-print_period.result c.from_residual-in_err-print_period.ensures.1 (c.in_err-print_period.ensures c.requires.sent).0
+    (whole, read, first, plan, (period_text c.args.every.now (plan_of new) c.args.tables.now.current c.args.tables.now.period, after.lines, (c.in_err-print_period.ensures c.requires.sent).1))
 
 pub returns-clause-rates : goal.returns-clause-rates
 returns-clause-rates g c = λ es e input start rows tables.
@@ -57,5 +57,5 @@ returns-clause-rates g c = λ es e input start rows tables.
       least,
       plan,
       later_tables c.args.every.now es whole (record { period = c.period_of-period.result; current = c.swap.new.x; next = c.swap.new.y }) tables.interval fine.rising after.less (c.period_of-period.ensures.number ∙ sym (ap (period_of c.args.every.now) at)) current next,
-      (period_text c.args.every.now (plan_of new) c.args.tables.now.current c.args.tables.now.period, after.lines, c.in_ok-print_period.ensures),
+      (period_text c.args.every.now (plan_of new) c.args.tables.now.current c.args.tables.now.period, after.lines, c.in_ok-print_period.ensures c.requires.sent),
     )
