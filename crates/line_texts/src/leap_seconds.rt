@@ -1,5 +1,5 @@
 //! Leap seconds: GPS time minus UTC.
-ghost use Rattle.std.specs.Prelude.{◌≡◌, ◌≤◌};
+ghost use Rattle.std.specs.Prelude.{◌≡◌};
 ghost use Rattle.line_texts.specs.LeapSeconds.{leap_at, leap_in};
 
 use gnss_obs::{Civil, GpsTime};
@@ -28,16 +28,14 @@ const LEAP_MONTHS: [u32; 18] = [
 
 /// Returns GPS time minus UTC in seconds on the date of a time, after its first minute.
 pub fn leap_at(time: GpsTime) -> u8
-    ensures value { result ≡ leap_at time }
-    ensures bound { result ≤ 18 }
+    ensures { result ≡ leap_at time }
 {
     leap_in(&time.civil())
 }
 
 /// Returns the number of months of the table up to that of a date.
 fn leap_in(date: &Civil) -> u8
-    ensures value { result ≡ leap_in date.now }
-    ensures bound { result ≤ 18 }
+    ensures { result ≡ leap_in date.now }
 {
     let month = 12 * u32::from(date.year) + u32::from(date.month);
     LEAP_MONTHS.iter().filter(|m| **m <= month).count() as u8

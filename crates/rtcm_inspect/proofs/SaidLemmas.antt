@@ -1,5 +1,5 @@
 -- What the ephemerides of a stream say of the week, after one more frame.
-use Rattle.rtcm_inspect.proofs.Names.{suc, zero, get_or_past, Any-from_list_any, list_any_at, SentWeek, greatest_in, rest_by, rests_in, said_after, said_at, whole_by, whole_in, AreSaid, AreSaidIn, common_steps, ◌≡◌, ◌∙◌, ◌<◌, ◌==◌, ◌&&◌, ◌||◌, ◌++◌, ℕ, Bool, true, false, List, [], ◌∷◌, Option, Some, None, arith, below, get_or, length, list_any, list_any-append, option_and_then, option_to_list, refl, subst, sym, Framed, sent_week, SaidWeeks}
+use Rattle.rtcm_inspect.proofs.Names.{◌^◌, IfSome, suc, zero, get_or_past, Any-from_list_any, list_any_at, SentWeek, greatest_in, rest_by, rests_in, said_after, said_at, whole_by, whole_in, AreSaid, AreSaidIn, common_steps, ◌≡◌, ◌∙◌, ◌<◌, ◌==◌, ◌&&◌, ◌||◌, ◌++◌, ℕ, Bool, true, false, List, [], ◌∷◌, Option, Some, None, arith, below, get_or, length, list_any, list_any-append, option_and_then, option_to_list, refl, subst, sym, Framed, sent_week, SaidWeeks}
 
 -- ---- one more frame
 
@@ -31,6 +31,13 @@ pub both_said : {x y : SaidWeeks} {wanted : Option ℕ} {fs : List Framed} (f : 
     → whole ≡ whole_by t e → rest ≡ rest_by t e → (AreSaid x.whole 16_384 (whole_in wanted fs) → AreSaid y.whole 16_384 (whole_in wanted fs ++ option_to_list whole))
     → (AreSaid x.rests 1_024 (rests_in wanted fs) → AreSaid y.rests 1_024 (rests_in wanted fs ++ option_to_list rest)) → AreSaidIn x wanted fs → AreSaidIn y wanted (fs ++ f ∷ [])
 both_said {x} {y} {wanted} {fs} f message t e is sent greatest whole rest more rests h = grind (arith, common_steps, said_now)
+
+-- a set has a place for it
+pub whole_small : (t : ℕ) (e : SentWeek) {o : Option ℕ} → o ≡ whole_by t e → e.week < 2 ^ 14 → IfSome o (λ n. n < 2 ^ 14)
+whole_small t e is small = grind arith
+
+pub rest_small : (t : ℕ) (e : SentWeek) {o : Option ℕ} → o ≡ rest_by t e → IfSome o (λ n. n < 1_024)
+rest_small t e is = grind arith
 
 -- ---- the weeks of a set
 

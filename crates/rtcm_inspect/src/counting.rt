@@ -69,8 +69,7 @@ impl FrameSink<()> for StreamSignals {
 impl StreamSignals {
     /// Adds a message. A refused one adds nothing.
     fn take_message(&mut self, message: &[u8], view: &Result<View<'_>, MsgFault>)
-        ensures { (f : Framed) → f.message ≡ message.now
-            → GivesViewed viewed_message view.now (message_at message.now)
+        ensures { (f : Framed) → f.message ≡ message.now → GivesViewed viewed_message view.now (message_at message.now)
             → Takes self.old self.new f (message_at f.message) }
     {
         match view {

@@ -36,9 +36,9 @@ pub fn equipment_text(offset: u64, equipment: &Equipment<'_>) -> EquipmentText
 
 /// Returns the words before the texts: offset, number, station and setup.
 fn head_of(offset: u64, equipment: &Equipment<'_>) -> OutputLine
-    ensures text { result ≡ with_words (decimal offset)
-        (decimal equipment.now.number ∷ decimal equipment.now.station ∷ decimal equipment.now.setup ∷ []) }
-    ensures short { length result ≤ longest_head }
+    ensures { IsTextWithin result (with_words (decimal offset)
+        (decimal equipment.now.number ∷ decimal equipment.now.station ∷ decimal equipment.now.setup ∷ []))
+        longest_head }
 {
     let mut line = OutputLine::new();
     line.put_number(offset);

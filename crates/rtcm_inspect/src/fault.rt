@@ -1,11 +1,11 @@
 //! Why a call stopped, and the names of faults, with what they carry, as words of a line.
-ghost use Rattle.std.specs.Prelude.{◌≡◌, ◌≤◌, [], ◌∷◌, decimal, length};
+ghost use Rattle.std.specs.Prelude.{◌≡◌, ◌+◌, ◌≤◌, [], ◌∷◌, decimal, length};
 ghost use Rattle.gnss_system.specs.Satellites.{letter};
 ghost use Rattle.rinex_file.specs.Texts.{field_name};
 ghost use Rattle.rtcm_inspect.specs.Devices.{stream_fault};
 ghost use Rattle.rtcm_inspect.specs.FaultWords.{header_words, inspection_words, plan_words};
 ghost use Rattle.line_texts.specs.Lines.{AddsWords};
-ghost use Rattle.line_texts.specs.inner.Errors.{longest_error, longest_fault, longest_fault_name, longest_start};
+ghost use Rattle.line_texts.specs.inner.Errors.{longest_error, longest_fault_name, longest_fault_place, longest_start};
 
 use devices::DeviceFailed;
 use gnss_obs::PlanFault;
@@ -145,9 +145,8 @@ pub fn add_plan_error(line: &mut OutputLine, fault: PlanFault)
 
 /// Adds a name and that of a text of the header.
 fn add_field(line: &mut OutputLine, name: &str, field: HeaderField)
-    requires room { length line.old ≤ longest_start }
-    requires short { length name.now ≤ longest_fault_name }
-    ensures { AddsWords line.old line.new (name.now ∷ field_name field ∷ []) longest_fault }
+    requires { length line.old + length name.now ≤ longest_start + longest_fault_name }
+    ensures { AddsWords line.old line.new (name.now ∷ field_name field ∷ []) (length name.now + longest_fault_place) }
 {
     line.add_word(name);
     line.add_word(field.name());
@@ -155,9 +154,9 @@ fn add_field(line: &mut OutputLine, name: &str, field: HeaderField)
 
 /// Adds a name, the letter of a system and a place.
 fn add_code(line: &mut OutputLine, name: &str, system: System, place: usize)
-    requires room { length line.old ≤ longest_start }
-    requires short { length name.now ≤ longest_fault_name }
-    ensures { AddsWords line.old line.new (name.now ∷ (letter system ∷ []) ∷ decimal place ∷ []) longest_fault }
+    requires { length line.old + length name.now ≤ longest_start + longest_fault_name }
+    ensures { AddsWords line.old line.new (name.now ∷ (letter system ∷ []) ∷ decimal place ∷ [])
+        (length name.now + longest_fault_place) }
 {
     line.add_word(name);
     line.add_part(b' ', &[system.letter()]);

@@ -222,8 +222,7 @@ fn tow_with_greatest(tow: Option<MsmTow>, time: u64) -> Option<MsmTow>
 
 /// Returns the greatest time after one more time of week.
 fn greatest_with(greatest: Option<GpsTime>, tow: u32) -> GpsTime
-    ensures value { Some result ≡ with_tow greatest tow }
-    ensures bound { result < weeks * week }
+    ensures { Some result ≡ with_tow greatest tow }
 {
     let Some(time) = greatest else {
         return GpsTime::within(u64::from(tow));
@@ -242,8 +241,7 @@ fn greatest_with(greatest: Option<GpsTime>, tow: u32) -> GpsTime
 /// Returns the milliseconds from a time to the next one with this time of week.
 #[inline(always)]
 pub fn ahead(time: u64, tow: u32) -> u64
-    ensures value { result ≡ ahead time tow }
-    ensures bound { result < week }
+    ensures { result ≡ ahead time tow }
 {
     (u64::from(tow) + (WEEK - time % WEEK)) % WEEK
 }

@@ -281,8 +281,7 @@ fn add_station(line: &mut OutputLine, offset: u64, station: StationParts)
 /// satellites, signals and cells.
 fn add_msm(line: &mut OutputLine, offset: u64, msm: &MsmView<'_>)
     requires { length line.old ≤ longest_prefix }
-    ensures { line.new
-        ≡ line.old ++ msm_line offset (message_number msm.now.form msm.now.msm.system) msm.now.msm }
+    ensures { line.new ≡ line.old ++ msm_line offset (message_number msm.now.form msm.now.msm.system) msm.now.msm }
 {
     let header = msm.header();
     line.put_number(offset);

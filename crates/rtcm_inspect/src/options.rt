@@ -7,12 +7,11 @@ ghost use Rattle.devices.specs.Devices.{Changes};
 ghost use Rattle.rtcm_msg.specs.Station.{InRange};
 ghost use Rattle.rtcm_scan.specs.Frames.{frames_of};
 ghost use Rattle.line_texts.specs.ChannelTexts.{channels_text};
-ghost use Rattle.line_texts.specs.Lines.{AddsWords, IsTextWithin, longest_line, with_words};
+ghost use Rattle.line_texts.specs.Lines.{AddsWords, IsTextWithin, longest_line, longest_number, with_words};
 ghost use Rattle.rtcm_inspect.specs.inner.Counting.{AreSignals, HoldsForCells, HoldsForFrames};
 ghost use Rattle.rtcm_inspect.specs.Fitting.{channel_words, first_words, forms_words, further_words, number_start};
 ghost use Rattle.rtcm_inspect.specs.Fitting.{options_text, other_words, station_words};
-ghost use Rattle.rtcm_inspect.specs.inner.Lines.{longest_codes, longest_name, longest_option, longest_options};
-ghost use Rattle.rtcm_inspect.specs.inner.Lines.{longest_plan};
+ghost use Rattle.rtcm_inspect.specs.inner.Lines.{longest_codes, longest_options, longest_plan};
 ghost use Rattle.rtcm_inspect.specs.OptionOutput.{AreOptionsOf, AreOptionsRefused};
 ghost use Rattle.rtcm_inspect.specs.StreamCounts.{stream_counts};
 ghost use Rattle.rtcm_inspect.specs.StreamOutput.{EndsStream};
@@ -107,8 +106,7 @@ fn options_line(signals: &StreamSignals, week: Option<u32>, leap: Option<u8>) ->
 
 /// Returns the first words of the options, up to the signals of Galileo.
 fn first_words(signals: &StreamSignals, week: Option<u32>) -> OutputLine
-    ensures text { HoldsForFrames signals.now (λ station fs. result ≡ first_words week station (plan_in station fs)) }
-    ensures short { length result ≤ longest_line }
+    ensures { HoldsForFrames signals.now (λ station fs. result ≡ first_words week station (plan_in station fs)) }
 {
     let mut line = OutputLine::new();
     add_number(&mut line, "--week", week);
@@ -123,9 +121,8 @@ fn first_words(signals: &StreamSignals, week: Option<u32>) -> OutputLine
 /// Returns the last words of the options, each after a blank, and the line feed.
 fn last_words(signals: &StreamSignals) -> OutputLine
     requires { IfSome signals.now.first.point InRange }
-    ensures text { result
+    ensures { result
         ≡ with_words [] (forms_words signals.now.forms ++ station_words signals.now.first.point) ++ 0x0A ∷ [] }
-    ensures short { length result ≤ longest_line }
 {
     let mut line = OutputLine::new();
     add_forms(&mut line, signals.forms);
@@ -202,9 +199,9 @@ fn put_line(text: &mut OptionsText, line: &OutputLine)
 
 /// Adds an option with a number, if there is one, and a blank.
 fn add_number(line: &mut OutputLine, option: &str, number: Option<u32>)
-    requires room { length line.old ≤ 100 }
-    requires short { length option.now ≤ longest_name }
-    ensures { IsTextWithin line.new (line.old ++ number_start option.now number) (length line.old + longest_option) }
+    requires { length line.old + length option.now + 2 + longest_number ≤ longest_line }
+    ensures { IsTextWithin line.new
+        (line.old ++ number_start option.now number) (length line.old + length option.now + 2 + longest_number) }
 {
     if let Some(number) = number {
         line.put(option.as_bytes());

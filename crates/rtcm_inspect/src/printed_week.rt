@@ -1,5 +1,5 @@
 //! The week of the options: that nearest to a date, or that of the stream's ephemerides.
-ghost use Rattle.std.specs.Prelude.{◌≡◌, ◌+◌, ◌*◌, ◌/◌, ◌<◌, ◌≤◌, ◌^◌, ℕ, List, Option, Some, IfNone, IfSome};
+ghost use Rattle.std.specs.Prelude.{◌≡◌, ◌+◌, ◌*◌, ◌/◌, ◌<◌, ◌≤◌, ◌^◌, ℕ, List, Option, Some, MatchOption};
 ghost use Rattle.std.specs.Prelude.{false, true, if◌then◌else◌};
 ghost use Rattle.std.specs.List.{list_any};
 ghost use Rattle.gnss_obs.specs.Weeks.{week};
@@ -177,10 +177,9 @@ fn week_for(noon: GpsTime, tow: Option<u32>) -> Option<u32>
 
 /// Returns the time of the first MSM by the first ephemeris, if they deny that it is in this week.
 fn other_time(said: &SaidWeeks, first: &FirstMsm, noon: GpsTime, week: u32) -> Option<GpsTime>
-    ensures some { (ds rs : List ℕ) → AreSaid said.now.whole 16_384 ds → AreSaid said.now.rests 1_024 rs
-        → IfSome result (λ t. (is_denied first.now ds rs week ≡ true) × IsOtherTime noon first.now ds rs t) }
-    ensures none { (ds rs : List ℕ) → AreSaid said.now.whole 16_384 ds → AreSaid said.now.rests 1_024 rs
-        → IfNone result (is_denied first.now ds rs week ≡ false) }
+    ensures { (ds rs : List ℕ) → AreSaid said.now.whole 16_384 ds → AreSaid said.now.rests 1_024 rs
+        → MatchOption result (is_denied first.now ds rs week ≡ false)
+        (λ t. (is_denied first.now ds rs week ≡ true) × IsOtherTime noon first.now ds rs t) }
 {
     match (said.whole.first.first(), said.rests.first.first()) {
         (Some(zero), _) => {
@@ -232,8 +231,7 @@ fn is_in(is_whole: bool, first: &FirstMsm, week: u32, zero: u64) -> bool
 /// Returns the week of the first MSM modulo 1,024, by that of the week that was counted as week 0.
 fn rest_of(first: &FirstMsm, zero: u64) -> u64
     requires { zero < 2 ^ 16 }
-    ensures value { result ≡ rest_of first.now zero }
-    ensures bound { result < 1_024 }
+    ensures { result ≡ rest_of first.now zero }
 {
     time_in(zero + REST_WEEKS, first) / WEEK % REST_WEEKS
 }
@@ -252,8 +250,7 @@ fn time_of_rest(noon: GpsTime, first: &FirstMsm, zero: u16) -> GpsTime
 /// the earlier one.
 fn nearest_rest(noon: GpsTime, tow: u32, rest: u64) -> u64
     requires { rest < 1_024 }
-    ensures near { IsNearestRest noon tow rest result }
-    ensures bound { result < 100_000 }
+    ensures { IsNearestRest noon tow rest result }
 {
     let span = REST_WEEKS * WEEK;
     let first = rest * WEEK + u64::from(tow);

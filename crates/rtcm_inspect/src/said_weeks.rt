@@ -1,5 +1,5 @@
 //! The week that the ephemerides of a stream contain.
-ghost use Rattle.std.specs.Prelude.{◌≡◌, ◌<◌, ◌^◌, ◌∷◌, ◌++◌, [], ℕ, List, Option, IfOk, IfSome, option_to_list};
+ghost use Rattle.std.specs.Prelude.{◌≡◌, ◌<◌, ◌∷◌, ◌++◌, [], ℕ, List, Option, IfOk, IfSome, option_to_list};
 ghost use Rattle.rtcm_scan.specs.Frames.{Framed};
 ghost use Rattle.rtcm_inspect.specs.CountedTimes.{greatest_in};
 ghost use Rattle.rtcm_inspect.specs.SentWeeks.{is_recent, rest_by, whole_by};
@@ -97,8 +97,7 @@ impl SaidWeeks {
 
 /// Returns the GPS week that was counted as week 0, if this time is in the week of the ephemeris.
 fn whole_by(time: GpsTime, sent: &SentWeek) -> Option<u16>
-    ensures value { result ≡ whole_by time sent.now }
-    ensures bound { sent.now.week < 2 ^ 14 → IfSome result (λ n. n < 2 ^ 14) }
+    ensures { result ≡ whole_by time sent.now }
 {
     let week = (time.milliseconds() / WEEK) as u32;
     if sent.is_whole && is_recent(time, sent) && week <= u32::from(sent.week) {
@@ -110,8 +109,7 @@ fn whole_by(time: GpsTime, sent: &SentWeek) -> Option<u16>
 
 /// Returns the same modulo 1,024, of an ephemeris whose week is.
 fn rest_by(time: GpsTime, sent: &SentWeek) -> Option<u16>
-    ensures value { result ≡ rest_by time sent.now }
-    ensures bound { IfSome result (λ n. n < 1_024) }
+    ensures { result ≡ rest_by time sent.now }
 {
     if !sent.is_whole && is_recent(time, sent) {
         let ahead = REST_WEEKS - time.milliseconds() / WEEK % REST_WEEKS;

@@ -94,8 +94,7 @@ fn count_line(system: System, index: usize, count: u64) -> OutputLine
 /// Returns the RINEX code of the signal at an index of a system's table, in ASCII.
 pub fn code_at(system: System, index: usize) -> [u8; 2]
     requires { index < length (table system) }
-    ensures value { result ≡ code_of (signal_in system index) }
-    ensures short { length result ≡ 2 }
+    ensures { result ≡ code_of (signal_in system index) }
 {
     Signal::from_index(system, index).unwrap().code()
 }

@@ -9,13 +9,6 @@ use Rattle.rtcm_msg.specs.Equipment.{longest_text}
 abbrev pub longest_prefix : ℕ
 longest_prefix = 80
 
--- the most bytes of the name of an option that has a number, and of the option: name, blank, number and blank
-abbrev pub longest_name : ℕ
-longest_name = 10
-
-abbrev pub longest_option : ℕ
-longest_option = longest_name + 1 + longest_number + 1
-
 -- the most bytes of the option of the signals of a system, after a blank, and of it and the further options of GLONASS
 abbrev pub longest_codes : ℕ
 longest_codes = 72

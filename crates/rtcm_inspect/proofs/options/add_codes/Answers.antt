@@ -12,7 +12,7 @@ loop-index-preserved c =
     record {
       text = λ cells h. (let count : IsCount c.args.signal_counts.now cells system i c.count.result = record { counts = h; within = there; is = c.count.ensures } in elim c.if-count-gt0.branch [
         | then-count-gt0 w ↦ (let more = partly_more start c.loop-index.line c.loop-index.separator system (had_below cells system i) i (c.loop-index.invariant.text cells h)
-            (w.add_part.ensures.text ∙ ap (λ (l : List ℕ). c.loop-index.line ++ c.loop-index.separator ∷ l) (w.as_slice.ensures ∙ w.code_at.ensures.value)) in
+            (w.add_part.ensures.text ∙ ap (λ (l : List ℕ). c.loop-index.line ++ c.loop-index.separator ∷ l) (w.as_slice.ensures ∙ w.code_at.ensures)) in
             rw (w.line-is, w.separator-is, had_one count w.if-count-gt0.true) more)
         | else-count-gt0 w ↦ rw (w.line-is, w.separator-is, had_none count w.if-count-gt0.false) (c.loop-index.invariant.text cells h)
       ]);

@@ -1,8 +1,8 @@
 use Rattle.rtcm_inspect.proofs.Names.{add_text, add_word, ◌∙◌, ◌++◌, ℕ, Option, ap, codes, refl, rules, valued_in, number_start}
 use Rattle.rtcm_inspect.proofs.options.first_words.Goals as goal
 
-pub returns-clause-text : goal.returns-clause-text
-returns-clause-text c = λ fs h.
+pub returns : goal.returns
+returns c = λ fs h.
     let s = c.args.signals.now in
     let counts = h.counted.signal_counts in
     let cells = valued_in s.station fs in

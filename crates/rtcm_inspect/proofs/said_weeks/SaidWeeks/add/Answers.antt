@@ -1,4 +1,4 @@
-use Rattle.rtcm_inspect.proofs.SaidLemmas.{both_said, no_sender, nothing_said}
+use Rattle.rtcm_inspect.proofs.SaidLemmas.{both_said, no_sender, nothing_said, rest_small, whole_small}
 use Rattle.rtcm_inspect.proofs.Names.{rests_in, whole_in, ◌∙◌, refl, sym}
 use Rattle.rtcm_inspect.proofs.said_weeks.SaidWeeks.add.Goals as goal
 
@@ -13,6 +13,6 @@ returns-in_default-greatest c = λ wanted fs f is greatest h.
 pub returns : goal.returns
 returns c = λ wanted fs f is greatest h.
     both_said f c.args.message.now c.in-Some-greatest.greatest c.in-Some.sent is (sym c.in-Some.is ∙ c.sent_week.ensures.value) (sym c.in-Some-greatest.is ∙ greatest)
-    c.whole_by.ensures.value c.rest_by.ensures.value
-    (c.add.ensures 16_384 (whole_in wanted fs) (c.whole_by.ensures.bound c.in-Some.ensures.bounds.0))
-    (c.add-2.ensures 1_024 (rests_in wanted fs) c.rest_by.ensures.bound) h
+    c.whole_by.ensures c.rest_by.ensures
+    (c.add.ensures 16_384 (whole_in wanted fs) (whole_small c.in-Some-greatest.greatest c.in-Some.sent c.whole_by.ensures c.in-Some.ensures.bounds.0))
+    (c.add-2.ensures 1_024 (rests_in wanted fs) (rest_small c.in-Some-greatest.greatest c.in-Some.sent c.rest_by.ensures)) h
