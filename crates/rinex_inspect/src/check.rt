@@ -123,9 +123,8 @@ fn print_gaps<R: Read, W: Deliver>(
 ) -> Result<(FileSummary, u64), FileFault>
     requires start { (input : Option (List ℕ)) → HasReadEpochs file.old [] input input }
     requires sent { W.waiting writer.old.inner ≡ [] }
-    ensures gaps { Changes R.remaining reader.old reader.new W.contents W.waiting writer.old writer.new
-        (ReadsGaps file.new result complete.now) }
-    ensures left { LeavesRest (R.remaining reader.old.inner) (R.remaining reader.new.inner) }
+    ensures { Changes R.remaining reader.old reader.new W.contents W.waiting writer.old writer.new
+        (λ d d'. ReadsGaps file.new result complete.now d d' × LeavesRest d.reader.unread d'.reader.unread) }
 {
     let mut missing = 0u64;
     loop {
@@ -164,8 +163,10 @@ fn print_gap<W: Deliver>(
     writer: &mut Counted<W>,
 ) -> Result<u64, FileFault>
     ensures fits { IfSome complete.now IsCompleteness }
-    ensures line { Writes W.contents W.waiting writer.old writer.new (Prints result (gap_with complete.now before time)) }
-    ensures ends { MatchResult result (λ n. n ≡ missing_with complete.now before time) (λ _. is_some complete.now ≡ true) }
+    ensures line { Writes W.contents W.waiting writer.old writer.new
+        (Prints result (gap_with complete.now before time)) }
+    ensures ends { MatchResult result
+        (λ n. n ≡ missing_with complete.now before time) (λ _. is_some complete.now ≡ true) }
     ensures range { time < weeks * week }
 {
     let Some(complete) = complete else {

@@ -11,7 +11,7 @@ ghost use Rattle.rinex_inspect.specs.Quality.{EndsQuality, RatesFiles};
 ghost use Rattle.rinex_inspect.specs.QualityOutput.{period_of};
 ghost use Rattle.rinex_inspect.specs.inner.QualityLines.{IsPrintable};
 ghost use Rattle.rinex_inspect.specs.inner.Rating.{AreTables, IsStart, RatesEpoch, RatesNext, RatesPeriods, ReadsRows, end_text};
-ghost use Rattle.rinex_inspect.specs.inner.Rating.{period_text, whole_text};
+ghost use Rattle.rinex_inspect.specs.inner.Rating.{period_text};
 ghost use Rattle.rinex_inspect.specs.inner.Reading.{Prints};
 ghost use Rattle.gnss_obs.specs.Intervals.{IsInterval};
 ghost use Rattle.rinex_inspect.specs.inner.Tables.{IsTableOf};
@@ -116,9 +116,8 @@ fn print_periods<R: Read, W: Deliver>(
     requires start { (input : Option (List ℕ)) → HasReadEpochs file.old [] input input }
     requires tables { AreTables every.now tables.old [] }
     requires sent { W.waiting writer.old.inner ≡ [] }
-    ensures rates { Changes R.remaining reader.old reader.new W.contents W.waiting writer.old writer.new
-        (RatesPeriods every.now file.new tables.new result) }
-    ensures left { LeavesRest (R.remaining reader.old.inner) (R.remaining reader.new.inner) }
+    ensures { Changes R.remaining reader.old reader.new W.contents W.waiting writer.old writer.new
+        (λ d d'. RatesPeriods every.now file.new tables.new result d d' × LeavesRest d.reader.unread d'.reader.unread) }
 {
     loop {
         if let Some(counts) = rate_next(every, tables, file, reader, writer)? {
@@ -253,7 +252,8 @@ fn print_period<W: Deliver>(
     }
 }
 
-/// Writes what is written at the end of a file.
+/// Writes what is written at the end of a file: the lines of its last period, or its counts and the
+/// lines of its signals and satellites.
 fn print_end<W: Deliver>(
     every: &Option<Interval>,
     tables: &Tables,
@@ -269,24 +269,13 @@ fn print_end<W: Deliver>(
     match every {
         Some(_) => print_period(every, &tables.current, tables.period, file, writer),
         None => {
+            let mut line = OutputLine::new();
+            add_counts(&mut line, counts);
+            print_text(line.as_bytes(), writer, FileFault::Write)?;
             let table = &tables.current;
-            print_whole(&Rated { table, file }, counts, writer)
+            let rated = Rated { table, file };
+            print_lines(&Lines::Signals, &rated, writer)?;
+            print_lines(&Lines::Satellites, &rated, writer)
         }
     }
-}
-
-/// Writes the counts of a file, and the lines of its signals and satellites.
-fn print_whole<W: Deliver>(
-    rated: &Rated,
-    counts: &Counts,
-    writer: &mut Counted<W>,
-) -> Result<(), FileFault>
-    ensures { (v : FileValue) → AreCounts counts.now v → Writes W.contents W.waiting writer.old writer.new
-        (Prints result (whole_text (plan_of rated.now.file.now) rated.now.table.now v)) }
-{
-    let mut line = OutputLine::new();
-    add_counts(&mut line, counts);
-    print_text(line.as_bytes(), writer, FileFault::Write)?;
-    print_lines(&Lines::Signals, rated, writer)?;
-    print_lines(&Lines::Satellites, rated, writer)
 }

@@ -136,8 +136,7 @@ fn total_of(records: &[SatelliteRecord], k: usize) -> (u64, Tally)
     requires place { k < most_signals }
     requires each { (i : ℕ) → i < length records.now → length (get_or records.now i no_record).signals ≡ most_signals }
     requires fits { IsSmallTally (total (tally_at records.now k) (length records.now)) }
-    ensures satellites { result.0
-        ≡ count_by (λ i. has_values (tally_at records.now k i)) (below (length records.now)) }
+    ensures satellites { result.0 ≡ count_by (λ i. has_values (tally_at records.now k i)) (below (length records.now)) }
     ensures total { result.1 ≡ total (tally_at records.now k) (length records.now) }
 {
     let mut satellites = 0u64;

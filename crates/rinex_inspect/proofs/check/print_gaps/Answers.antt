@@ -33,8 +33,8 @@ loop-before-preserved g c =
       reads = more_read (more_read inv.reads c.in-Ok-Epoch.ensures.reads) c.in-Ok.ensures.reads;
     }
 
-pub returns-in_err-print_gap-in-Ok-Epoch-clause-gaps : goal.returns-in_err-print_gap-in-Ok-Epoch-clause-gaps
-returns-in_err-print_gap-in-Ok-Epoch-clause-gaps g c =
+pub returns-in_err-print_gap-in-Ok-Epoch : goal.returns-in_err-print_gap-in-Ok-Epoch
+returns-in_err-print_gap-in-Ok-Epoch g c =
     let at = writer_of g.W.Write.contents g.W.Deliver.waiting in
     let inv = c.loop-before.invariant in
     let (es, read, printed, counts, inside) = inv.read in
@@ -43,49 +43,44 @@ returns-in_err-print_gap-in-Ok-Epoch-clause-gaps g c =
     let (write, text) = printed_more (at c.args.writer.now) (at c.loop-before.writer) (at c.print_gap.new.writer) c.args.complete.now es e c.in-Ok-Epoch.before printed before (same ∙ start) c.in_err-print_gap-in-Ok-Epoch.was (c.print_gap.ensures.line printed.1) in
     let both = devices_of g.R.Read.remaining g.W.Write.contents g.W.Deliver.waiting in
     let d = both c.args.reader.now c.args.writer.now in
-    let d2 = both c.finish.new.reader c.print_gap.new.writer in
-    passed c.from_residual.result _ (λ r. ReadsGaps c.finish.new.self r c.args.complete.now d d2) c.from_residual.ensures.1
-    (subst (λ (f : FileFault). ReadsGaps c.finish.new.self (Err f) c.args.complete.now d d2) (sym write)
-    (es ++ e ∷ [], c.finish.new.self.count, rw c.in_err-print_gap-in-Ok-Epoch.was at c.print_gap.ensures.ends, first, text, (more_read (more_read inv.reads c.in-Ok-Epoch.ensures.reads) c.in-Ok.ensures.reads).same))
+    let d2 = both c.finish.new.reader c.print_gap.new.writer in (
+      passed c.from_residual.result _ (λ r. ReadsGaps c.finish.new.self r c.args.complete.now d d2) c.from_residual.ensures.1
+          (subst (λ (f : FileFault). ReadsGaps c.finish.new.self (Err f) c.args.complete.now d d2) (sym write)
+          (es ++ e ∷ [], c.finish.new.self.count, rw c.in_err-print_gap-in-Ok-Epoch.was at c.print_gap.ensures.ends, first, text, (more_read (more_read inv.reads c.in-Ok-Epoch.ensures.reads) c.in-Ok.ensures.reads).same)),
+      leaves_more _ _ _ (leaves_more _ _ _ c.loop-before.invariant.reads.left c.in-Ok-Epoch.ensures.reads.left) c.in-Ok.ensures.reads.left,
+    )
 
-pub returns-then-not-is_inside-clause-gaps : goal.returns-then-not-is_inside-clause-gaps
-returns-then-not-is_inside-clause-gaps g c =
+pub returns-then-not-is_inside : goal.returns-then-not-is_inside
+returns-then-not-is_inside g c =
     let inv = c.loop-before.invariant in
     let (es, read, printed, counts, inside) = inv.read in
-    let (start, before, part, line, counted, kept) = begins_is c.loop-before.file c.begin.new.self es _ (g.R.Read.remaining c.begin.new.reader.inner) c.in-Ok-Epoch.field-0-is (c.in-Ok-Epoch.ensures.epochs es _ read) in
-    (es, IfSome_then (g.R.Read.remaining c.args.reader.now.inner) line (λ input at. (c.in-Ok-Epoch.time, sym c.is_inside.ensures ∙ c.if-not-is_inside.true, inside, rw c.line.ensures at)), printed, (more_read inv.reads c.in-Ok-Epoch.ensures.reads).same)
+    let (start, before, part, line, counted, kept) = begins_is c.loop-before.file c.begin.new.self es _ (g.R.Read.remaining c.begin.new.reader.inner) c.in-Ok-Epoch.field-0-is (c.in-Ok-Epoch.ensures.epochs es _ read) in (
+      (es, IfSome_then (g.R.Read.remaining c.args.reader.now.inner) line (λ input at. (c.in-Ok-Epoch.time, sym c.is_inside.ensures ∙ c.if-not-is_inside.true, inside, rw c.line.ensures at)), printed, (more_read inv.reads c.in-Ok-Epoch.ensures.reads).same),
+      leaves_more _ _ _ c.loop-before.invariant.reads.left c.in-Ok-Epoch.ensures.reads.left,
+    )
 
-pub returns-in-Ok-End-clause-gaps : goal.returns-in-Ok-End-clause-gaps
-returns-in-Ok-End-clause-gaps g c =
+pub returns-in-Ok-End : goal.returns-in-Ok-End
+returns-in-Ok-End g c =
     let inv = c.loop-before.invariant in
     let (es, read, printed, counts, inside) = inv.read in
-    let (found, only, kept) = begins_is c.loop-before.file c.begin.new.self es _ (g.R.Read.remaining c.begin.new.reader.inner) c.in-Ok-End.field-0-is (c.in-Ok-End.ensures.epochs es _ read) in
-    (es, found, only, printed, (more_read inv.reads c.in-Ok-End.ensures.reads).same, counts, inside)
+    let (found, only, kept) = begins_is c.loop-before.file c.begin.new.self es _ (g.R.Read.remaining c.begin.new.reader.inner) c.in-Ok-End.field-0-is (c.in-Ok-End.ensures.epochs es _ read) in (
+      (es, found, only, printed, (more_read inv.reads c.in-Ok-End.ensures.reads).same, counts, inside),
+      leaves_more _ _ _ c.loop-before.invariant.reads.left c.in-Ok-End.ensures.reads.left,
+    )
 
-pub returns-in-Err-clause-gaps : goal.returns-in-Err-clause-gaps
-returns-in-Err-clause-gaps g c =
+pub returns-in-Err : goal.returns-in-Err
+returns-in-Err g c =
+    let inv = c.loop-before.invariant in
+    let (es, read, printed, counts, inside) = inv.read in (
+      (es, c.in-Err.ensures.epochs es _ read, printed, reader_failed (File c.in-Err.fault) (none_read _ _) (file_read {B = ⊤} inv.reads c.in-Err.ensures.reads)),
+      leaves_more _ _ _ c.loop-before.invariant.reads.left c.in-Err.ensures.reads.left,
+    )
+
+pub returns-in-Err-finish : goal.returns-in-Err-finish
+returns-in-Err-finish g c =
     let inv = c.loop-before.invariant in
     let (es, read, printed, counts, inside) = inv.read in
-    (es, c.in-Err.ensures.epochs es _ read, printed, reader_failed (File c.in-Err.fault) (none_read _ _) (file_read {B = ⊤} inv.reads c.in-Err.ensures.reads))
-
-pub returns-in-Err-finish-clause-gaps : goal.returns-in-Err-finish-clause-gaps
-returns-in-Err-finish-clause-gaps g c =
-    let inv = c.loop-before.invariant in
-    let (es, read, printed, counts, inside) = inv.read in
-    let (start, before, part, line, counted, kept) = begins_is c.loop-before.file c.begin.new.self es _ (g.R.Read.remaining c.begin.new.reader.inner) c.in-Ok-Epoch.field-0-is (c.in-Ok-Epoch.ensures.epochs es _ read) in
-    (es, c.in-Err-finish.ensures.rows es _ _ part, printed, reader_failed (File c.in-Err-finish.fault) (none_read _ _) (file_read {B = ⊤} (more_read inv.reads c.in-Ok-Epoch.ensures.reads) c.in-Err-finish.ensures.reads))
-
-pub returns-in-Err-finish-clause-left : goal.returns-in-Err-finish-clause-left
-returns-in-Err-finish-clause-left g c = leaves_more _ _ _ (leaves_more _ _ _ c.loop-before.invariant.reads.left c.in-Ok-Epoch.ensures.reads.left) c.in-Err-finish.ensures.reads.left
-
-pub returns-in_err-print_gap-in-Ok-Epoch-clause-left : goal.returns-in_err-print_gap-in-Ok-Epoch-clause-left
-returns-in_err-print_gap-in-Ok-Epoch-clause-left g c = leaves_more _ _ _ (leaves_more _ _ _ c.loop-before.invariant.reads.left c.in-Ok-Epoch.ensures.reads.left) c.in-Ok.ensures.reads.left
-
-pub returns-then-not-is_inside-clause-left : goal.returns-then-not-is_inside-clause-left
-returns-then-not-is_inside-clause-left g c = leaves_more _ _ _ c.loop-before.invariant.reads.left c.in-Ok-Epoch.ensures.reads.left
-
-pub returns-in-Ok-End-clause-left : goal.returns-in-Ok-End-clause-left
-returns-in-Ok-End-clause-left g c = leaves_more _ _ _ c.loop-before.invariant.reads.left c.in-Ok-End.ensures.reads.left
-
-pub returns-in-Err-clause-left : goal.returns-in-Err-clause-left
-returns-in-Err-clause-left g c = leaves_more _ _ _ c.loop-before.invariant.reads.left c.in-Err.ensures.reads.left
+    let (start, before, part, line, counted, kept) = begins_is c.loop-before.file c.begin.new.self es _ (g.R.Read.remaining c.begin.new.reader.inner) c.in-Ok-Epoch.field-0-is (c.in-Ok-Epoch.ensures.epochs es _ read) in (
+      (es, c.in-Err-finish.ensures.rows es _ _ part, printed, reader_failed (File c.in-Err-finish.fault) (none_read _ _) (file_read {B = ⊤} (more_read inv.reads c.in-Ok-Epoch.ensures.reads) c.in-Err-finish.ensures.reads)),
+      leaves_more _ _ _ (leaves_more _ _ _ c.loop-before.invariant.reads.left c.in-Ok-Epoch.ensures.reads.left) c.in-Err-finish.ensures.reads.left,
+    )

@@ -19,7 +19,7 @@ returns-in_err-deliver_waiting g c = record {
 
 pub returns : goal.returns
 returns g c =
-    let (es, found, only, printed, same, counts, inside) = c.in_ok-summary.ensures.gaps in
+    let (es, found, only, printed, same, counts, inside) = c.in_ok-summary.ensures.0 in
     let at = devices_of g.R.Read.remaining g.W.Write.contents g.W.Deliver.waiting in
     let w = writer_of g.W.Write.contents g.W.Deliver.waiting in
     record {
@@ -27,7 +27,7 @@ returns g c =
           (found.v, found.is, found.text, inside_of c.print_gaps-read.new.file c.args.options.complete inside found.holds, whole_output c.print_gaps-read.new.file c.args.options _ found.v es _ found.holds found.is counts c.summary_text-text.ensures) same
           (printed_later Write c.print_text.result (w c.deliver_waiting.new.writer) (w c.print_text.new.writer) c.in_ok-deliver_waiting.ensures (ap (λ (t : List ℕ). gaps_if c.args.options.complete (times_in es) ++ t) c.as_bytes.ensures.text)
           (printed_after Write c.print_text.result (w c.deliver_waiting.new.writer) (w c.print_gaps-read.new.writer) (w c.print_text.new.writer) (gaps_if c.args.options.complete (times_in es)) _ printed c.print_text.ensures));
-      left = c.in_ok-summary.ensures.left;
+      left = c.in_ok-summary.ensures.1;
       only = λ v is few. IfSome_then (g.R.Read.remaining c.args.reader.now.inner) (only v is few)
           (λ input h text. checked_or {w = w c.args.writer.now} {w2 = w c.print_text.new.writer} c.args.options c.print_text.result v (inside_of c.print_gaps-read.new.file c.args.options.complete inside (h text)) (whole_output c.print_gaps-read.new.file c.args.options _ v es _ (h text) is counts c.summary_text-text.ensures)
           (printed_later Write c.print_text.result (w c.deliver_waiting.new.writer) (w c.print_text.new.writer) c.in_ok-deliver_waiting.ensures (ap (λ (t : List ℕ). gaps_if c.args.options.complete (times_in es) ++ t) c.as_bytes.ensures.text)
@@ -41,8 +41,8 @@ returns-in_err-summary g c =
     let d2 = at c.print_gaps-read.new.reader c.print_gaps-read.new.writer in
     record {
       ends = passed c.from_residual-in_err-summary.result _ (λ r. EndsCheck c.args.options r d d2) c.from_residual-in_err-summary.ensures.1
-          (gaps_stopped c.print_gaps-read.new.file c.args.options d d2 (writer_of g.W.Write.contents g.W.Deliver.waiting c.deliver_waiting.new.writer) _ c.in_ok-deliver_waiting.ensures c.in_err-summary.ensures.gaps);
-      left = c.in_err-summary.ensures.left;
+          (gaps_stopped c.print_gaps-read.new.file c.args.options d d2 (writer_of g.W.Write.contents g.W.Deliver.waiting c.deliver_waiting.new.writer) _ c.in_ok-deliver_waiting.ensures c.in_err-summary.ensures.0);
+      left = c.in_err-summary.ensures.1;
       only = passed c.from_residual-in_err-summary.result _ (λ r. AcceptsFiles c.args.options r d d2) c.from_residual-in_err-summary.ensures.1
-          (λ v is few. gaps_refused c.print_gaps-read.new.file c.args.options d d2 (writer_of g.W.Write.contents g.W.Deliver.waiting c.deliver_waiting.new.writer) _ v is few c.in_ok-deliver_waiting.ensures c.in_err-summary.ensures.gaps);
+          (λ v is few. gaps_refused c.print_gaps-read.new.file c.args.options d d2 (writer_of g.W.Write.contents g.W.Deliver.waiting c.deliver_waiting.new.writer) _ v is few c.in_ok-deliver_waiting.ensures c.in_err-summary.ensures.0);
     }

@@ -29,31 +29,29 @@ loop-counts-preserved g c =
       reads = more_read inv.reads c.in_ok-counts.ensures.reads;
     }
 
-pub returns-in-Some-clause-rates : goal.returns-in-Some-clause-rates
-returns-in-Some-clause-rates g c =
+pub returns-in-Some : goal.returns-in-Some
+returns-in-Some g c =
     let at = devices_of g.R.Read.remaining g.W.Write.contents g.W.Deliver.waiting in
     let inv = c.loop-counts.invariant in
     let (es, read, tables, printed) = inv.read in
-    let input = g.R.Read.remaining c.args.reader.now.inner in
-    all_rated c.args.every.now c.loop-counts.file c.rate_next.new.file c.loop-counts.tables c.rate_next.new.tables es c.in-Some.counts (at c.args.reader.now c.args.writer.now) (at c.loop-counts.reader c.loop-counts.writer) (at c.rate_next.new.reader c.rate_next.new.writer) read tables printed
-    (next_is c.args.every.now c.loop-counts.file c.rate_next.new.file c.loop-counts.tables c.rate_next.new.tables es input (at c.loop-counts.reader c.loop-counts.writer) (at c.rate_next.new.reader c.rate_next.new.writer) c.in-Some.is (c.in_ok-counts.ensures.rates es input read tables))
-    (more_read inv.reads c.in_ok-counts.ensures.reads).same
+    let input = g.R.Read.remaining c.args.reader.now.inner in (
+      all_rated c.args.every.now c.loop-counts.file c.rate_next.new.file c.loop-counts.tables c.rate_next.new.tables es c.in-Some.counts (at c.args.reader.now c.args.writer.now) (at c.loop-counts.reader c.loop-counts.writer) (at c.rate_next.new.reader c.rate_next.new.writer) read tables printed
+          (next_is c.args.every.now c.loop-counts.file c.rate_next.new.file c.loop-counts.tables c.rate_next.new.tables es input (at c.loop-counts.reader c.loop-counts.writer) (at c.rate_next.new.reader c.rate_next.new.writer) c.in-Some.is (c.in_ok-counts.ensures.rates es input read tables))
+          (more_read inv.reads c.in_ok-counts.ensures.reads).same,
+      (more_read c.loop-counts.invariant.reads c.in_ok-counts.ensures.reads).left,
+    )
 
-pub returns-in-Some-clause-left : goal.returns-in-Some-clause-left
-returns-in-Some-clause-left g c = (more_read c.loop-counts.invariant.reads c.in_ok-counts.ensures.reads).left
-
-pub returns-in_err-counts-clause-rates : goal.returns-in_err-counts-clause-rates
-returns-in_err-counts-clause-rates g c =
+pub returns-in_err-counts : goal.returns-in_err-counts
+returns-in_err-counts g c =
     let at = devices_of g.R.Read.remaining g.W.Write.contents g.W.Deliver.waiting in
     let inv = c.loop-counts.invariant in
     let (es, read, tables, printed) = inv.read in
     let input = g.R.Read.remaining c.args.reader.now.inner in
     let d = at c.args.reader.now c.args.writer.now in
-    let d2 = at c.rate_next.new.reader c.rate_next.new.writer in
-    passed c.from_residual.result _ (λ r. RatesPeriods c.args.every.now c.rate_next.new.file c.rate_next.new.tables r d d2) c.from_residual.ensures.1
-    (stopped_periods c.args.every.now c.loop-counts.file c.rate_next.new.file c.loop-counts.tables c.rate_next.new.tables es d (at c.loop-counts.reader c.loop-counts.writer) d2 c.in_err-counts.field-0.0 tables.interval read printed
-    (c.in_err-counts.ensures.rates es input read tables)
-    (reader_failed c.in_err-counts.field-0.0 inv.reads c.in_err-counts.ensures.reads))
-
-pub returns-in_err-counts-clause-left : goal.returns-in_err-counts-clause-left
-returns-in_err-counts-clause-left g c = leaves_more _ _ _ c.loop-counts.invariant.reads.left c.in_err-counts.ensures.reads.left
+    let d2 = at c.rate_next.new.reader c.rate_next.new.writer in (
+      passed c.from_residual.result _ (λ r. RatesPeriods c.args.every.now c.rate_next.new.file c.rate_next.new.tables r d d2) c.from_residual.ensures.1
+          (stopped_periods c.args.every.now c.loop-counts.file c.rate_next.new.file c.loop-counts.tables c.rate_next.new.tables es d (at c.loop-counts.reader c.loop-counts.writer) d2 c.in_err-counts.field-0.0 tables.interval read printed
+          (c.in_err-counts.ensures.rates es input read tables)
+          (reader_failed c.in_err-counts.field-0.0 inv.reads c.in_err-counts.ensures.reads)),
+      leaves_more _ _ _ c.loop-counts.invariant.reads.left c.in_err-counts.ensures.reads.left,
+    )

@@ -5,14 +5,14 @@ use Rattle.rinex_inspect.proofs.quality.rate.Goals as goal
 
 pub print_end-requires-clause-within : goal.print_end-requires-clause-within
 print_end-requires-clause-within g c =
-    let (es, has, only, tables, printed, fine, fits, output) = c.in_ok-counts.ensures.rates in
+    let (es, has, only, tables, printed, fine, fits, output) = c.in_ok-counts.ensures.0 in
     subst (λ (p : ℕ). IfSome c.args.every.now (λ n. p * n < weeks * week)) (sym tables.period) (start_within c.args.every.now (last_of (times_in es)) tables.interval)
 
 pub returns : goal.returns
 returns g c =
     let at = devices_of g.R.Read.remaining g.W.Write.contents g.W.Deliver.waiting in
     let w = writer_of g.W.Write.contents g.W.Deliver.waiting in
-    let (es, has, only, tables, printed, fine, fits, output) = c.in_ok-counts.ensures.rates in
+    let (es, has, only, tables, printed, fine, fits, output) = c.in_ok-counts.ensures.0 in
     let plan = plan_of c.print_periods.new.file in
     record {
       ends = ended c.args.every.now (at c.args.reader.now c.args.writer.now) (at c.print_periods.new.reader c.print_end.new.writer) c.print_end.result has.v has.is has.text fine
@@ -33,5 +33,5 @@ returns-in_err-counts g c = record {
       let at = devices_of g.R.Read.remaining g.W.Write.contents g.W.Deliver.waiting in
       let d = at c.args.reader.now c.args.writer.now in
       let d2 = at c.print_periods.new.reader c.print_periods.new.writer in
-      passed c.from_residual.result _ (λ r. RatesFiles c.args.every.now r d d2) c.from_residual.ensures.1 (ended_early_or c.args.every.now c.print_periods.new.file c.print_periods.new.tables d d2 _ c.requires.tables.interval c.in_err-counts.ensures.rates);
+      passed c.from_residual.result _ (λ r. RatesFiles c.args.every.now r d d2) c.from_residual.ensures.1 (ended_early_or c.args.every.now c.print_periods.new.file c.print_periods.new.tables d d2 _ c.requires.tables.interval c.in_err-counts.ensures.0);
 }
