@@ -1,5 +1,5 @@
 //! The command `signals`: the signals of a stream as a table.
-ghost use Rattle.std.specs.Prelude.{◌≡◌, ◌+◌, ◌*◌, ◌<◌, ◌≤◌, ◌++◌, [], flat_map, length};
+ghost use Rattle.std.specs.Prelude.{◌≡◌, ◌+◌, ◌*◌, ◌<◌, ◌≤◌, ◌++◌, flat_map, length};
 ghost use Rattle.gnss_system.specs.Signals.{table, code_of};
 ghost use Rattle.gnss_system.specs.Systems.{systems};
 ghost use Rattle.obs_epoch.specs.SignalCounts.{signal_in};
@@ -47,19 +47,19 @@ pub fn run_signals<R: Read, W: Deliver>(
     if !signals.signal_counts.has_any() {
         return Err(InspectFault::NoSignal(signals.counts));
     }
-    let mut text = ArrayVec::new();
-    add_systems(&mut text, &signals.signal_counts);
+    let text = system_lines(&signals.signal_counts);
     print_text(text.as_slice(), writer, InspectFault::Write)
 }
 
-/// Adds the lines of each system.
-fn add_systems(text: &mut ArrayVec<u8, TEXT_BYTES>, signal_counts: &SignalCounts)
-    requires { text.old.items ≡ [] }
-    ensures { HoldsForCells signal_counts.now (λ cells. text.new.items ≡ flat_map (count_lines cells) systems) }
+/// Returns the lines of all systems.
+fn system_lines(signal_counts: &SignalCounts) -> ArrayVec<u8, TEXT_BYTES>
+    ensures { HoldsForCells signal_counts.now (λ cells. result.items ≡ flat_map (count_lines cells) systems) }
 {
+    let mut text = ArrayVec::new();
     for i in 0..SYSTEMS.len() {
-        add_lines(text, signal_counts, System::at(i));
+        add_lines(&mut text, signal_counts, System::at(i));
     }
+    text
 }
 
 /// Adds a line for each signal of a system that has a cell.

@@ -20,4 +20,4 @@ returns g c =
     let at = devices_of g.R.Read.remaining g.W.Write.contents g.W.Deliver.waiting in
     let w = writer_of g.W.Write.contents g.W.Deliver.waiting in
     stream_printed (AreSignalsOf c.args.station) (AreSignalsRefused c.args.station) (at c.args.reader.now c.args.writer.now) (at c.read_signals.new.reader c.print_text.new.writer) c.print_text.result s (some, refl) c.in_ok-signals.ensures.reader
-    (printed_later Write c.print_text.result (w c.deliver_waiting.new.writer) (w c.print_text.new.writer) c.in_ok-deliver_waiting.ensures (c.as_slice.ensures.value ∙ c.add_systems.ensures cells counts) c.print_text.ensures)
+    (printed_later Write c.print_text.result (w c.deliver_waiting.new.writer) (w c.print_text.new.writer) c.in_ok-deliver_waiting.ensures (c.as_slice.ensures.value ∙ c.system_lines-text.ensures cells counts) c.print_text.ensures)

@@ -1,5 +1,5 @@
 use Rattle.rtcm_inspect.proofs.Names.{common_steps, ◌≡◌, ◌∙◌, ◌+◌, ◌*◌, ◌≤◌, ◌++◌, ◌∷◌, [], ℕ, List, length, ap, sym, subst, arith, flat_map, append-nil, flat_map-append, System, table, HeardCell, count_lines, take, sum_by, take_all, sum_by-append, systems, systems_taken}
-use Rattle.rtcm_inspect.proofs.signals.add_systems.Goals as goal
+use Rattle.rtcm_inspect.proofs.signals.system_lines.Goals as goal
 
 -- the bytes of the lines of systems
 abbrev room : List System → ℕ

@@ -1,5 +1,5 @@
 use Rattle.rtcm_inspect.proofs.Names.{◌≡◌, ◌*◌, ◌≤◌, List, length, flat_map, table, AreSignalCounts, HeardCell, count_lines, take, sum_by, systems}
-use Rattle.rtcm_inspect.proofs.signals.add_systems.Given as goal
+use Rattle.rtcm_inspect.proofs.signals.system_lines.Given as goal
 
 abbrev pub invariant-loop-i : goal.invariant-loop-i
 invariant-loop-i l =
