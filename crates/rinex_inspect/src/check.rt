@@ -167,7 +167,6 @@ fn print_gap<W: Deliver>(
         (Prints result (gap_with complete.now before time)) }
     ensures ends { MatchResult result
         (λ n. n ≡ missing_with complete.now before time) (λ _. is_some complete.now ≡ true) }
-    ensures range { time < weeks * week }
 {
     let Some(complete) = complete else {
         return Ok(0);

@@ -1,7 +1,7 @@
 use Rattle.rinex_file.proofs.ReaderLaws.{leaves_more, more_read, none_read}
 use Rattle.rinex_inspect.proofs.MissingLemmas.{none_missed, none_printed}
 use Rattle.rinex_inspect.proofs.GapLemmas.{begins_is, counted_more, inside_more, file_read, printed_more, reader_failed}
-use Rattle.rinex_inspect.proofs.Names.{File, ⊤, begun_in, IfSome_then, is_inside, true, All-nil, ◌≡◌, Appends, ◌∙◌, ◌++◌, ◌∷◌, [], arith, refl, subst, sym, Appends-nil, Err, FileFault, ReadsGaps, ℕ, passed, devices_of, writer_of}
+use Rattle.rinex_inspect.proofs.Names.{◌<◌, ◌*◌, week, weeks, rules, File, ⊤, begun_in, IfSome_then, is_inside, true, All-nil, ◌≡◌, Appends, ◌∙◌, ◌++◌, ◌∷◌, [], arith, refl, subst, sym, Appends-nil, Err, FileFault, ReadsGaps, ℕ, passed, devices_of, writer_of}
 use Rattle.rinex_inspect.proofs.check.print_gaps.Goals as goal
 
 pub loop-before-init : goal.loop-before-init
@@ -29,7 +29,7 @@ loop-before-preserved g c =
     let (e, same, next, first, least, plan) = c.in-Ok.ensures.rows es _ _ part in
     let time = same ∙ start in
     record {
-      read = (es ++ e ∷ [], next, printed_more (at c.args.writer.now) (at c.loop-before.writer) (at c.print_gap.new.writer) c.args.complete.now es e c.in-Ok-Epoch.before printed before time c.in_ok-print_gap-in-Ok-Epoch.was (c.print_gap.ensures.line printed.1), counted_more c.args.complete.now es e c.in-Ok-Epoch.before c.print_gap.ensures.fits before time counts (rw c.in_ok-print_gap-in-Ok-Epoch.was at c.print_gap.ensures.ends) (λ fits. omega (arith, fits, c.saturating_add-missing.ensures)) (omega (arith, c.print_gap.ensures.range)), inside_more c.args.complete.now es e inside time (sym c.is_inside.ensures ∙ c.if-not-is_inside.false));
+      read = (es ++ e ∷ [], next, printed_more (at c.args.writer.now) (at c.loop-before.writer) (at c.print_gap.new.writer) c.args.complete.now es e c.in-Ok-Epoch.before printed before time c.in_ok-print_gap-in-Ok-Epoch.was (c.print_gap.ensures.line printed.1), counted_more c.args.complete.now es e c.in-Ok-Epoch.before c.print_gap.ensures.fits before time counts (rw c.in_ok-print_gap-in-Ok-Epoch.was at c.print_gap.ensures.ends) (λ fits. omega (arith, fits, c.saturating_add-missing.ensures)) (let small : c.in-Ok-Epoch.time < weeks * week = search rules in omega (arith, small)), inside_more c.args.complete.now es e inside time (sym c.is_inside.ensures ∙ c.if-not-is_inside.false));
       reads = more_read (more_read inv.reads c.in-Ok-Epoch.ensures.reads) c.in-Ok.ensures.reads;
     }
 
