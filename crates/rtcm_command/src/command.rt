@@ -158,9 +158,8 @@ fn answer<W: Deliver, E: Deliver>(
         × Writes W.contents W.waiting writer.old writer.new (PrintsText VERSION.now) × (faults.new ≡ faults.old) }
     ensures stopped { result ≡ 1 → Writes E.contents E.waiting faults.old faults.new (λ e e'.
         Writes W.contents W.waiting writer.old writer.new (StopsPrinting (kind_of error.now) e e')) }
-    ensures refused { result ≡ 2
-        → (kind_of error.now ≢ DisplayVersion) × (kind_of error.now ≢ OutOfMemory) × (writer.new ≡ writer.old)
-        × Writes E.contents E.waiting faults.old faults.new PrintsSome }
+    ensures refused { result ≡ 2 → (kind_of error.now ≢ DisplayVersion) × (kind_of error.now ≢ OutOfMemory)
+        × (writer.new ≡ writer.old) × Writes E.contents E.waiting faults.old faults.new PrintsSome }
 {
     match error.kind() {
         ErrorKind::DisplayVersion => {

@@ -1,9 +1,6 @@
-use Rattle.rtcm_command.proofs.CommandLemmas.{Served, answered_in_part, failed_to_serve, has_command, is_version, refused_at_two, refused_words, served}
+use Rattle.rtcm_command.proofs.CommandLemmas.{Served, answered_in_part, failed_to_serve, is_version, refused_at_two, refused_words, served}
 use Rattle.rtcm_command.proofs.Names.{ap, devices_of, inr, refl, texts, writer_of}
 use Rattle.rtcm_command.proofs.command.command.Goals as goal
-
-pub run-requires : goal.run-requires
-run-requires g c = has_command (texts c.args.words.now) c.in-Ok.matches c.in-Ok.ensures.asked
 
 pub returns-in-Ok : goal.returns-in-Ok
 returns-in-Ok g c =

@@ -1,19 +1,11 @@
 use Rattle.rtcm_command.proofs.ConvertLemmas.{ends_refused}
-use Rattle.rtcm_command.proofs.Names.{◌≡◌, ◌∙◌, ap, nat_lt, report_line, inr, refl, subst, ℕ, List, Result, Ok, Err, BadSetup, Report, EndsConverting, PrintsLine, options_of, CommandFault, devices_of, passed, writer_of}
+use Rattle.rtcm_command.proofs.Names.{◌≡◌, ◌∙◌, ap, nat_lt, report_line, subst, ℕ, List, Result, Ok, Err, BadSetup, Report, PrintsLine, options_of, CommandFault, devices_of, writer_of}
 use Rattle.command_faults.specs.declared.fault.CommandFault.TheVariants as faults
 use Rattle.rtcm_command.proofs.command.convert.Goals as goal
 
 pub returns-in_err-setup : goal.returns-in_err-setup
 returns-in_err-setup g c =
     ends_refused (devices_of g.R.Read.remaining g.W.Write.contents g.W.Deliver.waiting c.args.reader.now c.args.writer.now) (options_of c.args.options.now) c.from_residual.result c.in_err-setup.field-0.0 (writer_of g.E.Write.contents g.E.Deliver.waiting c.args.faults.now) c.from_residual.ensures.1 c.in_err-setup.ensures
-
-pub returns-in_err-report : goal.returns-in_err-report
-returns-in_err-report g c =
-    let end = c.in_err-report.ensures.ends in
-    let at = devices_of g.R.Read.remaining g.W.Write.contents g.W.Deliver.waiting in
-    let e = writer_of g.E.Write.contents g.E.Deliver.waiting c.args.faults.now in
-    passed c.from_residual-in_err-report.result _ (λ r. EndsConverting r (options_of c.args.options.now) e e (at c.args.reader.now c.args.writer.now) (at c.run_convert.new.reader c.run_convert.new.writer)) c.from_residual-in_err-report.ensures.1
-    (end.0, (inr (c.in_ok-setup.setup, c.in_ok-setup.ensures, end.1), refl))
 
 pub returns : goal.returns
 returns g c =

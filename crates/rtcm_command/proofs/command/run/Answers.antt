@@ -1,4 +1,4 @@
-use Rattle.rtcm_command.proofs.CommandLemmas.{ends_so, file_found, inspection_found, is_named, option_refused, sub_found}
+use Rattle.rtcm_command.proofs.CommandLemmas.{ends_so, file_found, inspection_found, option_refused, sub_found}
 use Rattle.rtcm_command.proofs.OptionLemmas.{bad_text, no_device, refused_complete, source_fault}
 use Rattle.rtcm_command.proofs.Names.{culprit, HaveFailedBy, CommandFault, ◌∙◌, inl, inr, refl, sym, devices_of, options_of, writer_of}
 use Rattle.rtcm_command.proofs.command.run.Goals as goal
@@ -60,6 +60,3 @@ returns-in_err-every-in-quality g c =
     let d = devices_of g.R.Read.remaining g.W.Write.contents g.W.Deliver.waiting c.args.reader.now c.args.writer.now in
     let set = c.in_err-every-in-quality.ensures in
     option_refused d (writer_of g.E.Write.contents g.E.Deliver.waiting c.args.faults.now) c.from_residual-in_err-every-in-quality.result c.from_residual-in_err-every-in-quality.ensures.1 found (bad_text set) (refl, refl) (inr (inr (inr (inr (inr (c.in-quality.is, set), (refl, refl))))))
-
-pub unreachable-requires-in_default-name : goal.unreachable-requires-in_default-name
-unreachable-requires-in_default-name g c = is_named c.args.matches.now c.requires (sub_found _ c.in-Some.ensures.name c.in-Some.ensures.rows) c.in_default-name.not-frames c.in_default-name.not-show c.in_default-name.not-signals c.in_default-name.not-options c.in_default-name.not-convert c.in_default-name.not-check c.in_default-name.not-quality

@@ -2,11 +2,6 @@ use Rattle.rtcm_command.proofs.ConvertLemmas.{Faulted, conversion_stopped, given
 use Rattle.rtcm_command.proofs.Names.{refl, IsBad, devices_of}
 use Rattle.rtcm_command.proofs.convert.run_convert.Goals as goal
 
-pub returns-in-Ok-clause-ends : goal.returns-in-Ok-clause-ends
-returns-in-Ok-clause-ends g c =
-    let end = c.in-Ok.ensures in
-    ((end.devices.0.1, end.devices.1.1, end.sent), end.made)
-
 pub returns-in-Err-clause-ends : goal.returns-in-Err-clause-ends
 returns-in-Err-clause-ends g c =
     let end = c.in-Err.ensures in

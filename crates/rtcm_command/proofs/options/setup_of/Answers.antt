@@ -1,4 +1,4 @@
-use Rattle.rtcm_command.proofs.Names.{CommandFault, IsErrAnd, IsSetupRefused, Row, Setup, inl, inr, options_of, passed, refl, sym, IsDefined, ◌≡◌, ◌∙◌, ℕ, List, Result, Ok, Err, IfOk, ap, codes, not, bytes_eq, HasUnsignedDigitsIfOk, ExplainsUnsignedError, found_of, wrapped}
+use Rattle.rtcm_command.proofs.Names.{CommandFault, IsErrAnd, IsSetupRefused, Row, Setup, inr, options_of, passed, sym, IsDefined, ◌≡◌, ◌∙◌, ℕ, List, Result, Ok, Err, IfOk, ap, codes, not, bytes_eq, HasUnsignedDigitsIfOk, ExplainsUnsignedError, found_of, wrapped}
 use Rattle.std.proofs.Common.{MatchResult, None, arith, subst}
 use Rattle.std.proofs.lemmas.Grind.{common_steps}
 use Rattle.rtcm_command.specs.SetupOptions.{IsSetupOf}
@@ -28,24 +28,6 @@ plan_refused options (Ok p) f none defined is = grind arith
 
 refused : (fault : CommandFault) (options : List Row) (r : Result Setup CommandFault) → IsErrAnd r (λ y. y ≡ fault) → IsSetupRefused options fault → MatchResult r (IsSetupOf options) (IsSetupRefused options)
 refused fault options r is h = passed r _ (λ (q : Result Setup CommandFault). MatchResult q (IsSetupOf options) (IsSetupRefused options)) is h
-
-pub returns-in_err-start : goal.returns-in_err-start
-returns-in_err-start c = refused _ (options_of c.args.options.now) c.from_residual.result c.from_residual.ensures.1 (inl c.in_err-start.ensures)
-
-pub returns-in_err-initial : goal.returns-in_err-initial
-returns-in_err-initial c =
-    refused _ (options_of c.args.options.now) c.from_residual-in_err-initial.result c.from_residual-in_err-initial.ensures.1
-    (first_fault c.in_err-initial.field-0.0 (options_of c.args.options.now) c.in_ok-start.start c.in_ok-start.ensures (sym c.values_of.ensures ∙ c.in_err-initial.was) refl refl)
-
-pub returns-in_err-channels : goal.returns-in_err-channels
-returns-in_err-channels c =
-    refused _ (options_of c.args.options.now) c.from_residual-in_err-channels.result c.from_residual-in_err-channels.ensures.1
-    (first_fault c.in_err-channels.field-0.0 (options_of c.args.options.now) c.in_ok-start.start c.in_ok-start.ensures (sym c.values_of.ensures ∙ c.in_ok-initial.was) (sym c.channels_of.ensures ∙ c.in_err-channels.was) refl)
-
-pub returns-in_err-choice : goal.returns-in_err-choice
-returns-in_err-choice c =
-    refused _ (options_of c.args.options.now) c.from_residual-in_err-choice.result c.from_residual-in_err-choice.ensures.1
-    (first_fault c.in_err-choice.field-0.0 (options_of c.args.options.now) c.in_ok-start.start c.in_ok-start.ensures (sym c.values_of.ensures ∙ c.in_ok-initial.was) (sym c.channels_of.ensures ∙ c.in_ok-channels.was) (inl c.in_err-choice.ensures))
 
 pub returns-in_err-texts : goal.returns-in_err-texts
 returns-in_err-texts c =
