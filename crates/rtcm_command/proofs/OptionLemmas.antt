@@ -32,18 +32,11 @@ text_given f id r o is found = ap (option_map (λ (s : Bor (List ℕ)). s.now)) 
 
 -- an option without a text, and with one, by the first value found
 pub none_given : {A : Type 0} (Reads : List ℕ → Option A → Type 0) (fault : CommandFault) (f : Found) (id : List ℕ) (r : Option (Bor (List ℕ))) → option_map (λ s. s.now) r ≡ first_value f id → r ≡ None → IsGiven Reads fault (first_of id (rows_of f)) (Ok None)
-none_given Reads fault f id r is found =
-    let none = text_given f id r None is found in
-    record { none = λ e. refl; some = λ t e. absurd (let bad : ◌≡◌ {A = Option (List ℕ)} None (Some t) = none ∙ e in cc) }
+none_given Reads fault f id r is found = grind (arith, common_steps, text_given)
 
 pub some_given : {A : Type 0} (Reads : List ℕ → Option A → Type 0) (fault : CommandFault) (f : Found) (id : List ℕ) (r : Option (Bor (List ℕ))) (text : Bor (List ℕ)) (read : Option A) → option_map (λ s. s.now) r ≡ first_value f id → r ≡ Some text
     → ((t : List ℕ) → text.now ≡ t → Reads t read) → IsGiven Reads fault (first_of id (rows_of f)) (ok_or (option_map Some read) fault)
-some_given Reads fault f id r text read is found reads =
-    let some = text_given f id r (Some text) is found in
-    record {
-      none = λ e. absurd (let bad : ◌≡◌ {A = Option (List ℕ)} (Some text.now) None = some ∙ e in cc);
-      some = λ t e. (read, reads t (let same : ◌≡◌ {A = Option (List ℕ)} (Some text.now) (Some t) = some ∙ e in cc), refl);
-    }
+some_given Reads fault f id r text read is found reads = grind (arith, common_steps, text_given)
 
 -- what was read by one relation was read by a weaker one
 pub given_so : {A : Type 0} {Reads Finds : List ℕ → Option A → Type 0} {fault : CommandFault} {text : Option (List ℕ)} {value : Result (Option A) CommandFault} → IsGiven Reads fault text value → ((t : List ℕ) (x : Option A) → Reads t x → Finds t x) → IsGiven Finds fault text value

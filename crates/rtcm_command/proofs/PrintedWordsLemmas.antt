@@ -1,5 +1,6 @@
 -- The values that the words of the printed options give.
-use Rattle.rtcm_command.proofs.Names.{◌&&◌, ◌∷◌, ◌++◌, false, flat_map, if◌then◌else◌, nat_lt, option_and_then, true, option_or, append_assoc, append-nil, System, Gps, Galileo, Glonass, Beidou, Qzss, Sbas, name_of, PlanValue, planned_of, Forms, StationParts, is_always_decoded, is_decoded, channels_text, antenna_words, channel_words, forms_words, further_words, number_words, option_words, other_words, position_word, station_words, codes_word, first_of, one_of, first_station, forms_had, plan_in, Framed, HaveValues, after_prefix, default_of, given, has_equals, printed_words, ChannelsValue, IfSome, Row, text_set, subst, bytes_eq, height_text, not, position_text, option_map_or, ◌≡◌, Bool, List, None, Option, Some, [], ap, codes, decimal, length, option_map, refl, sym, unwrap_or, ℕ, ◌∙◌}
+use Rattle.std.proofs.lemmas.Grind.{common_steps}
+use Rattle.rtcm_command.proofs.Names.{◌&&◌, ◌∷◌, ◌++◌, false, flat_map, if◌then◌else◌, nat_lt, option_and_then, true, option_or, append_assoc, append-nil, System, Gps, Galileo, Glonass, Beidou, Qzss, Sbas, name_of, PlanValue, planned_of, Forms, StationParts, is_always_decoded, is_decoded, channels_text, antenna_words, channel_words, forms_words, further_words, number_words, option_words, other_words, position_word, station_words, codes_word, first_of, one_of, first_station, forms_had, plan_in, Framed, HaveValues, after_prefix, default_of, given, has_equals, printed_words, ChannelsValue, IfSome, Row, text_set, subst, bytes_eq, height_text, not, position_text, option_map_or, ◌≡◌, Bool, List, None, Option, Some, [], ap, codes, decimal, length, option_map, refl, sym, unwrap_or, ℕ, ◌∙◌, arith}
 use Rattle.gnss_system.specs.Systems.{systems}
 use Rattle.rtcm_msg.specs.declared.number.Forms.TheVariants as forms
 use Rattle.command_line.specs.CommandLine as rules
@@ -53,24 +54,18 @@ abbrev of_word : (word name : List ℕ) → Option (List ℕ) → Option (List �
 of_word word name o = if bytes_eq word (codes "--" ++ name) then o else None
 
 no_word : (word name : List ℕ) → Has name [] (of_word word name None)
-no_word word name = λ rest. by (bytes_eq word (codes "--" ++ name)) (given name rest) where
-  by : (b : Bool) (o : Option (List ℕ)) → o ≡ option_or (if b then None else None) o
-  by true o = refl
-  by false o = refl
+no_word word name = grind (arith, common_steps)
 
 choose : (b : Bool) (v : List ℕ) (o : Option (List ℕ)) → (if b then Some v else o) ≡ option_or (if b then Some v else None) o
 choose true v o = refl
 choose false v o = refl
 
 pair_has : (name w v : List ℕ) → has_equals w ≡ false → Has name (w ∷ v ∷ []) (of_word w name (Some v))
-pair_has name w v e = λ rest.
-    ap (λ (b : Bool). if b then option_or (after_prefix (codes "--" ++ (name ++ codes "=")) w) (given name (v ∷ rest)) else (if bytes_eq w (codes "--" ++ name) then Some v else given name rest)) e
-    ∙ choose (bytes_eq w (codes "--" ++ name)) v (given name rest)
+pair_has name w v e = grind (arith, common_steps, choose)
 
 word_has : (name w : List ℕ) → has_equals w ≡ true → Has name (w ∷ []) (after_prefix (codes "--" ++ (name ++ codes "=")) w)
-word_has name w e [] = sym (or_none (after_prefix (codes "--" ++ (name ++ codes "=")) w))
-word_has name w e (v ∷ rest) =
-    ap (λ (b : Bool). if b then option_or (after_prefix (codes "--" ++ (name ++ codes "=")) w) (given name (v ∷ rest)) else (if bytes_eq w (codes "--" ++ name) then Some v else given name rest)) e
+word_has name w e [] = grind (arith, common_steps, or_none)
+word_has name w e (v ∷ rest) = grind (arith, common_steps)
 
 -- ---- the words of the options
 
@@ -196,10 +191,7 @@ module _ (w leap st : Option ℕ) (p : PlanValue) (f : Forms) (first : Option St
   -- ---- what each option is given
 
   week_given : IfSome w (λ n. given (codes "week") words ≡ Some (decimal n))
-  week_given = by w (words_plain (codes "week") (λ s. refl)) where
-    by : (v : Option ℕ) → given (codes "week") words ≡ option_or (option_map decimal v) None → IfSome v (λ n. given (codes "week") words ≡ Some (decimal n))
-    by None e = tt
-    by (Some n) e = e
+  week_given = grind (arith, common_steps, words_plain)
 
   station_given : given (codes "station") words ≡ option_map decimal st
   station_given = words_plain (codes "station") (λ s. refl) ∙ or_none (option_map decimal st)
@@ -234,10 +226,7 @@ module _ (w leap st : Option ℕ) (p : PlanValue) (f : Forms) (first : Option St
     by forms.All = refl
 
   pub position_given : unwrap_or (given (codes "position") words) (codes "0,0,0") ≡ option_map_or position_text first (codes "0,0,0")
-  position_given = ap (λ (o : Option (List ℕ)). unwrap_or o (codes "0,0,0")) (words_give (codes "position")) ∙ by first where
-    by : (first : Option StationParts) → unwrap_or (option_or (position_value (codes "position") first) None) (codes "0,0,0") ≡ option_map_or position_text first (codes "0,0,0")
-    by None = refl
-    by (Some s) = refl
+  position_given = grind (arith, common_steps, words_give)
 
   pub height_given : unwrap_or (given (codes "antenna-height") words) (codes "0") ≡ height_text (option_and_then (λ s. s.height) first)
   height_given = given_or (codes "antenna-height") (codes "0") (λ s. refl) ∙ by (option_and_then (λ s. s.height) first) where
