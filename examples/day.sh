@@ -9,7 +9,7 @@
 #                   are the header texts and others that this script and the plan of `options` don't give; --station
 #                   is given to `options`, and --marker is the name of the station if there is none
 #   obs/STATION/    the file with its RINEX name, the values of its signals with station and position, and last, by
-#                   which days.sh knows that the day is done, the report of the conversion
+#                   which days.sh knows that the day is done, the report of the conversion, unless the day isn't over
 #
 # A STATION has nine characters for the RINEX name, as KIRU00SWE: site, monument, receiver and country. SKIPPED is the
 # largest percentage of bytes in no frame that isn't reported, 1 by default: more if the logs have other data too.
@@ -33,6 +33,9 @@ case $station in
 esac
 before=$(date -u -d "$day - 1 day" +%F)
 after=$(date -u -d "$day + 1 day" +%F)
+# before its logs are read
+early=''
+test "$(date -u +%s)" -ge "$(date -u -d "$after" +%s)" || early="the day isn't over"
 made=obs/$station/${station}_S_$(date -u -d "$day" +%Y%j)0000_01D_30S_MO.rnx
 kept=obs/$station/$day
 part=$made.$$.part raw=$kept.$$.raw note=$kept.$$.part
@@ -222,7 +225,8 @@ test "$number" ||
     number=$(rtcm2rinex show --all < "$raw" 2> /dev/null | awk '$2 !~ /^10(07|08|33)$/ && NF > 5 { print $3; exit }')
 keep "$kept.signals" "$values
 station ${number:-unknown} position ${position:-none}"
-keep "$kept.report" "$report"
+# what comes later in the day is converted by days.sh, as there is no report
+test "$early" || keep "$kept.report" "$report"
 
 # What the day lacks, in one line: epochs, bytes, messages, and half of the values that a signal had on the latest day
 # before that has a file, whose station and position are to be the same.
@@ -232,13 +236,14 @@ for signals in "obs/$station"/????-??-??.signals; do
     previous=$signals
 done
 day_before=${previous##*/}
-lacks=$(gaps=$gaps report=$report heard=$heard others=$others awk -v late="$late" -v weeks="$weeks" \
+lacks=$(early=$early gaps=$gaps report=$report heard=$heard others=$others awk -v late="$late" -v weeks="$weeks" \
     -v lost="$lost" -v size="$size" -v skipped="${SKIPPED:-1}" -v on="${day_before%.signals}" '
     $1 == "station" { number[when] = $2; at[when] = $4; next }
     { signal = $2 " " $3; count = $7 + $9 + $11 + $13 }
     when == "before" { was[signal] = count; order[++signals] = signal }
     when == "now" { now[signal] = count }
     END {
+        if (ENVIRON["early"]) add(ENVIRON["early"])
         if (ENVIRON["others"]) add("left out, as their ephemerides have another week:" ENVIRON["others"])
         count = split(ENVIRON["gaps"], lines, "\n")
         for (i = 1; i <= count; i++) {

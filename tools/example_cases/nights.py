@@ -46,6 +46,41 @@ def try_interrupted(room: Room) -> Outcomes:
         shutil.rmtree(room.folder / "obs")
 
 
+def try_missed(room: Room) -> Outcomes:
+    yesterday, said = past_day(1), "9 of 2880 epochs, "
+
+    def logs(*days: int) -> list[str]:
+        """Writes logs of these days, and returns the begin of the line of each, and of that of yesterday."""
+        for day in map(past_day, days):
+            room.write(f"raw/{STATION}/{day}-010000.rtcm3", stream_of([*day_messages(day, 0, 9)]))
+        return [*(f"{STATION} {past_day(day)}: {said}" for day in days), f"{STATION} {yesterday}: no log"]
+
+    # a day that isn't over is made again when it is
+    today = past_day(0)
+    logs(0)
+    ran = room.run(script("day.sh", STATION, today))
+    is_said = begin(ran.stdout, (f"{STATION} {today}: the day isn't over; {said}",)) and ran.returncode == 1
+    yield "a day that isn't over", is_said and not (room.folder / f"obs/{STATION}/{today}.report").exists()
+    shutil.rmtree(room.folder / "obs")
+    # the machine was off for weeks, of which a day was made by hand
+    lines = logs(20, 9, 3)
+    last = lines[2:]
+    for kept, words, tried in (((), (), last), ((30,), ("6",), last), ((30, 1), (), lines), ((30, 0, -2), (), lines)):
+        for day in kept:
+            room.write(f"obs/{STATION}/{past_day(day)}.report", b"")
+        ran = room.run(script("days.sh", STATION, *words))
+        yield f"weeks off {kept} {words}", begin(ran.stdout, tuple(tried)) and ran.returncode == 1
+        shutil.rmtree(room.folder / "obs")
+    # the first log of a day is a link to one that is missing; another day has the times of a log alone
+    shutil.rmtree(room.folder / "raw")
+    logs(3)
+    (room.folder / f"raw/{STATION}/{past_day(3)}-000000.rtcm3").symlink_to("absent")
+    room.write(f"raw/{STATION}/{past_day(2)}.rtcm3.tag", b"TIMETAG RTKLIB")
+    ran = room.run(script("days.sh", STATION))
+    starts = (f"{STATION} {past_day(3)}: no file: cat: raw/", f"{STATION} {yesterday}: no log")
+    yield "a dangling link, and times alone", begin(ran.stdout, starts) and ran.returncode == 1
+
+
 def has_parallel(room: Room) -> bool:
     return b"GNU parallel" in room.run("parallel --version || :").stdout
 
