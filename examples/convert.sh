@@ -5,7 +5,8 @@
 # begin:
 #   DAY=2024-02-04 sh convert.sh s.rtcm3 s.obs
 # and for one of several stations its number, as STATION=2003. Further options are those of `rtcm2rinex convert` that
-# the script and the plan of `options` don't give, such as --interval 30. The report is printed.
+# the script and the plan of `options` don't give, such as --interval 30. The report is printed. If the ephemerides of
+# a recording with a date have several weeks, as after a gap of over half a week, it reports them and fails.
 set -eu
 : "${2:?usage: convert.sh RAW OBS [OPTION ..]}"
 raw=$1 obs=$2
@@ -28,10 +29,14 @@ if { test -e "$obs" && test ! -f "$obs"; } || test "$raw" -ef "$obs"; then
 fi
 
 # the options that fit the recording: week, station, signals, GLONASS channels, position
+options() { rtcm2rinex options "$@" ${STATION:+--station "$STATION"} < "$raw"; }
+several=''
 if test "${DAY-}"; then
-    plan=$(rtcm2rinex options --near "$DAY" ${STATION:+--station "$STATION"} < "$raw")
+    plan=$(options --near "$DAY")
+    # one of several weeks may be that of the date
+    weeks=$(options --week 2>&1) || case $weeks in *SeveralWeeks*) several=${weeks##*SeveralWeeks } ;; esac
 else
-    plan=$(rtcm2rinex options --week ${STATION:+--station "$STATION"} < "$raw")
+    plan=$(options --week)
 fi
 
 # The file has its name only when it is complete. Not every shell runs the trap of EXIT at a signal.
@@ -41,3 +46,7 @@ trap 'exit 1' HUP INT TERM
 # shellcheck disable=SC2086 # the shell has to split a plan into options
 rtcm2rinex convert --gather time --date "$(date -u '+%Y%m%d %H%M%S UTC')" $plan "$@" < "$raw" > "$part"
 mv -f -- "$part" "$obs"
+test -z "$several" || {
+    echo "$raw: ephemerides have several weeks for the first message, $several: after a gap the week is wrong" >&2
+    exit 1
+}

@@ -5,6 +5,7 @@ import signal
 from collections.abc import Callable
 from datetime import datetime, timezone
 
+from case_rows.weeks import ephemeris
 from reference_impl.messages import WEEK
 from rooms import DEAF, KILLED, RECORDED, START, Outcomes, Room, at, messages_of, of_station, stream_of, wait_until
 
@@ -74,6 +75,26 @@ def try_convert_to(room: Room) -> Outcomes:
     ran = room.run(f"{one} & first=$!\nsleep 0.5; {one}; wait $first")
     lines = room.text("z.obs").splitlines()
     yield "two at once", ran.returncode == 0 and len(lines) == 2 and lines[0] == lines[1]
+
+
+def try_weeks(room: Room) -> Outcomes:
+    # two weeks are missing in the midst, which ephemerides say
+    hour = 3_600_000
+    parts = []
+    for begin in (at("2024-02-06 12:00"), at("2024-02-20 13:00")):
+        station, *observed = messages_of([begin + 1000 * second for second in range(9)])
+        parts.append([station, *observed, ephemeris(1045, begin // WEEK, begin % WEEK // hour * 60)])
+    room.write("gap.rtcm3", stream_of([*parts[0], *parts[1]]))
+    room.write("one.rtcm3", stream_of(parts[0]))
+    dated = "DAY=2024-02-06 "
+    ran = room.run(dated + script("convert.sh", "one.rtcm3", "one.obs"))
+    yield "a date", ran.returncode == 0 and ran.stderr.startswith(b"bytes ") and ran.stderr.count(b"\n") == 1
+    ran = room.run(dated + script("convert.sh", "gap.rtcm3", "gap.obs"))
+    said = "gap.rtcm3: ephemerides have several weeks for the first message, 2300 2302: after a gap the week is wrong"
+    is_said = ran.returncode == 1 and ran.stderr.decode().splitlines()[1:] == [said]
+    yield "a date of one of several weeks", is_said and room.text("gap.obs").count("\n> 2024 02 06 ") == 18
+    ran = room.run(script("convert.sh", "gap.rtcm3", "no.obs"))
+    yield "several weeks", (ran.returncode, ran.stderr) == (1, b"rtcm2rinex: SeveralWeeks 2300 2302\n")
 
 
 def made(room: Room) -> list[str]:
