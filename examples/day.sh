@@ -130,7 +130,8 @@ earlier() {
 later() { test ! -e "$next" || plain "$next" 2> /dev/null | head -c 2000000; }
 logs() { earlier && cat "$raw" && later; }
 position=$(position_of "$(options --near "$day" < "$raw")")
-ends_at=$(position_of "$(tail -c 2000000 "$raw" | options --near "$day")")
+ends=$(tail -c 2000000 "$raw" | options --near "$day") || :
+ends_at=$(position_of "$ends")
 fits() {
     beside=$(options --near "$day" < "$note") && ! several < "$note" || return 1
     test -z "$1" || case $(position_of "$beside") in '' | "$1") ;; *) return 1 ;; esac
@@ -156,7 +157,8 @@ if has_neighbour && test "$(epochs "$part")" -lt 2880; then
     more=$(alone "$note" "$@" && epochs "$note") || more=0
     test "${more:-0}" -le "$(epochs "$part")" || alone "$part" "$@" || say "no file: $errors"
 fi
-several < "$raw" || :
+# several weeks of GPS, which are known modulo 1,024, are found at the end of the logs only
+several < "$raw" || case $ends in *OtherWeek*) weeks=${ends##*OtherWeek } ;; esac
 gaps=$(rtcm2rinex check --gaps 30 --from "$day" --until "$after" < "$part" 2>&1) || say "no file: $gaps"
 has=$(rtcm2rinex quality < "$part")
 values=$(echo "$has" | grep '^signal ') || :

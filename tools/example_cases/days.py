@@ -228,6 +228,12 @@ def try_weeks(room: Room) -> Outcomes:
         room.write(f"raw/{STATION}/{AFTER}.rtcm3", sent(day_messages(AFTER), number, WEEK_OF_DAY))
         said = rf": no file: rtcm2rinex: OtherWeek {WEEK_OF_DAY - 2} 2024-02-03$"
         yield f"the day of another week by {number}", says(room, said) and not (room.folder / MADE).exists()
+        # its log goes on at the same time of a week later
+        of_both = [ephemeris(number, WEEK_OF_DAY + week, hour * HOURS[number]) for week, hour in ((0, 2), (1, 18))]
+        both = stream_of([*messages[:300], of_both[0], *messages[300:4500], of_both[1], *messages[4500:]])
+        weeks = f"({WEEK_OF_DAY - 1} {WEEK_OF_DAY}|{WEEK_OF_DAY + 1} 2024-02-18)"
+        said = f": the ephemerides have several weeks for the first message, {weeks}$"
+        yield f"a log of two weeks by {number}", says_of(room, both, said)
         # one of its logs has
         clear(room)
         for name, first, end, week in (("000000", -1, 1400, 0), ("114000", 1400, 1480, 1), ("122000", 1480, 2881, 0)):
