@@ -8,13 +8,19 @@
 # the conversion goes on. For an archive keep the raw stream (rtcm2rinex-log@.service) and convert it a day at a time.
 set -eu
 : "${3:?usage: live.sh PLAN STREAM NAME [OPTION ..]}"
-plan=$(cat "$1")
+plan=$(cat -- "$1")
 test "$plan" || {
     echo "$1: no plan" >&2
     exit 1
 }
 stream=$2 obs=$3-$(date -u +%Y%m%dT%H%M%SZ).obs
 shift 3
+# Its week is wrong if the stream began half a week after the start, or paused for half a week.
+last_epoch() {
+    tail -c 1000000 -- "$obs" | awk '
+        /^> [0-9]/ { last = $2 "-" $3 "-" $4 " " $5 ":" $6 }
+        END { print last }'
+}
 
 # The first line in the pipe is the process number of str2str, which ignores SIGPIPE and would go on alone. Its status,
 # if it fails by itself, comes by descriptor 3; a stop ends the shell that waits for it.
@@ -32,6 +38,12 @@ failed=$(
                 if report=$(rtcm2rinex convert --near "$(date -u +%F)" --date "$(date -u '+%Y%m%d %H%M%S UTC')" \
                     $plan "$@" 2>&1 > "$obs"); then
                     echo "$obs: $report" >&2
+                    last=$(last_epoch)
+                    ago=$(($(date -u +%s) - $(date -u -d "$last" +%s)))
+                    test "${ago#-}" -lt 302400 || {
+                        echo "$obs: the last epoch is of $last, over half a week from now: its week may be wrong" >&2
+                        exit 1
+                    }
                 else
                     echo "$obs: the conversion ended with status $?: $report" >&2
                     # str2str loses a signal that comes before it has started

@@ -1,15 +1,25 @@
 """Tests of the scripts for a recording and a live stream, and of the one that reads files back."""
 import gzip
 import os
+import re
+import shutil
 import signal
 from collections.abc import Callable
 from datetime import datetime, timezone
 
 from case_rows.weeks import ephemeris
 from reference_impl.messages import WEEK
-from rooms import DEAF, KILLED, RECORDED, START, Outcomes, Room, at, messages_of, of_station, stream_of, wait_until
+from rooms import DEAF, KILLED, RECORDED, START, STR2STR
+from rooms import Outcomes, Room, at, messages_of, of_station, stream_of, wait_until
 
 from .common import DATED, UNDATED, body_of, header_of, script
+
+# a `date` whose seconds are those of a week later
+LATE_DATE = f"""\
+#!/bin/sh
+test "$*" = "-u +%s" || exec {shutil.which("date")} "$@"
+echo $(($({shutil.which("date")} +%s) + 604800))
+"""
 
 
 def try_convert(room: Room) -> Outcomes:
@@ -149,7 +159,18 @@ def try_live_faults(room: Room) -> Outcomes:
     yield "an empty plan", (ran.returncode, ran.stderr) == (1, b"empty: no plan\n") and len(made(room)) == number
     ran = room.run(script("live.sh", "plan", "ntrip://x", "absent/s"))
     yield "a missing folder", ran.returncode == 1 and b": the conversion ended with status " in ran.stderr
+    (room.folder / "-plan").write_bytes((room.folder / "plan").read_bytes())
+    (room.folder / "bin/str2str").write_text("#!/bin/sh\ncat live.rtcm3\n", encoding="ascii")
+    ran = room.run(f"sleep 1; {script('live.sh', '-plan', 'ntrip://x', 's')}")
+    yield "a leading hyphen", ran.returncode == 0 and ran.stderr.decode().endswith(" epochs 4\n")
+    # the stream began a week after the start
+    (room.folder / "bin/date").write_text(LATE_DATE, encoding="ascii")
+    (room.folder / "bin/date").chmod(0o755)
+    ran = room.run(f"sleep 1; {live}")
+    said = rf" epochs 4\n{made(room)[-1]}: the last epoch is of [-0-9]+ 00:00, over half a week from now: .*\n$"
+    yield "another week", ran.returncode == 1 and re.search(said, ran.stderr.decode()) is not None
     # an error when str2str loses signals
+    (room.folder / "bin/str2str").write_text(STR2STR, encoding="utf-8")
     room.replace_program(f"sleep {DEAF / 2}; exit 2")
     ran = room.run(f"sleep 1; {live}")
     yield "an early error", ran.returncode == 1 and b": the conversion ended with status 2: " in ran.stderr
