@@ -173,8 +173,9 @@ case $report in
 esac
 
 # Logs that overlap repeat messages, which are counted as late. Lost is a message of the day and of an earlier time than
-# one before it, if it comes for the first time. Times of BeiDou are 14 seconds less than GPS time, those of GLONASS are
-# of Moscow, without leap seconds.
+# one before it, if it comes for the first time: one of several of its number and time has other numbers of satellites,
+# signals and cells. Times of BeiDou are 14 seconds less than GPS time, those of GLONASS are of Moscow, without leap
+# seconds.
 late=0
 case $report in
 *" late 0 "*) ;;
@@ -184,7 +185,7 @@ case $report in
     late=$(logs | rtcm2rinex show --all | awk -v own="${wanted#--station=}" -v leap="${leap%% *}" -v week=604800000 \
         -v day=86400000 -v weekday="$(date -u -d "$day" +%w)" '
         own != "" && $3 != own { next }
-        $2 ~ /^1(07|08|09|10|11|12)[4-7]$/ && NF == 8 && !seen[$2, $3, $4]++ {
+        $2 ~ /^1(07|08|09|10|11|12)[4-7]$/ && NF == 8 && !seen[$2, $3, $4, $5, $6, $7, $8]++ {
             time = $4 + ($2 ~ /^112/ ? 14000 : $2 ~ /^108/ ? 1000 * leap - 10800000 : 0)
             back = (last - time + 2 * week) % week
             is_late = started++ && back > 0 && back < week / 2

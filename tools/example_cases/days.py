@@ -7,7 +7,7 @@ import shutil
 from case_rows.weeks import ephemeris
 from reference_impl.fields import packed
 from reference_impl.messages import WEEK
-from reference_impl.stream import FOUR, station_message
+from reference_impl.stream import FOUR, Form, station_message
 from rooms import Outcomes, Room, at, messages_of, of_station, stream_of
 
 from .common import AFTER, BEFORE, DATED, DAY, EPOCHS, MADE, STATION, STEP
@@ -294,6 +294,11 @@ def try_late(room: Room) -> Outcomes:
         late[n], late[n + 1] = late[n + 1], late[n]
     # of which the first is of the day before, and the last isn't late
     yield "a system that is late", says_of(room, stream_of(late), f"{len(galileo) - 2} late messages are lost")
+    # the second message of an epoch's satellites comes after the first one of the next epoch
+    parts = messages_of([at(DAY) + STEP * n for n in range(-1, EPOCHS + 1)], Form({"G": 5}, {"G": (2,)}, per=3))
+    parts[2000], parts[2001] = parts[2001], parts[2000]
+    yield "a part of an epoch that is late", says_of(room, stream_of(parts), "1 late messages are lost")
+    yield "parts that are repeated", says_of(room, stream_of(parts[:3000]) + stream_of(parts[2500:]), "1 late messages")
     # those of the day after are said of it
     says_of(room, day_log(DAY))
     after = [*day_messages(AFTER, 0, 400)]
