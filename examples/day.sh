@@ -29,7 +29,7 @@ say() {
 
 case $station in
 [A-Z0-9][A-Z0-9][A-Z0-9][A-Z0-9][0-9][0-9][A-Z][A-Z][A-Z]) ;;
-*) say "no file: the name of a station has nine characters, as KIRU00SWE" ;;
+*) say "no file: the name of a station has nine capital letters and digits, as KIRU00SWE" ;;
 esac
 before=$(date -u -d "$day - 1 day" +%F)
 after=$(date -u -d "$day + 1 day" +%F)
@@ -48,12 +48,13 @@ trap 'exit 1' HUP INT TERM
 
 # the options of the station
 header=headers/$station wanted='' marker=--marker=$station
-end=$(printf '\r')
+end=$(printf '\r') mark=$(printf '\357\273\277')
 set --
 if test -e "$header" || test -L "$header"; then
     { test -f "$header" && test -r "$header"; } || say "no file: $header is not readable"
     while IFS= read -r option || test -n "$option"; do
-        # also of a file whose lines end as those of Windows
+        # also of a file that begins with a byte order mark, or whose lines end as those of Windows
+        option=${option#"$mark"}
         option=${option%"$end"}
         case $option in
         "" | "#"*) ;;
@@ -115,10 +116,11 @@ test "$count" -gt 0 || test -z "$others" || say "no file: $(options --near "$day
 test "$count" -gt 0 || say "no log"
 
 # The first and the last seconds of the day may be in the logs beside it: those of UTC begin 18 seconds after the GPS
-# day. The day is made without such a log if it is damaged, of another week, or of a station at another position.
+# day. The day is made without such a log if it is damaged, of another week, or of a station at another position. An
+# empty one is none, as of a logger that was started in vain.
 last='' next=''
-for log in "$folder/$before"*; do is_log "$log" && last=$log; done
-for log in "$folder/$after"*; do is_log "$log" && next=$log && break; done
+for log in "$folder/$before"*; do is_log "$log" && test -s "$log" && last=$log; done
+for log in "$folder/$after"*; do is_log "$log" && test -s "$log" && next=$log && break; done
 has_neighbour() { test -e "$last" || test -e "$next"; }
 earlier() {
     case $last in

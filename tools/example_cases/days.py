@@ -84,9 +84,10 @@ def try_day(room: Room) -> Outcomes:
     yield "no log but its times", says(room, f"^{STATION} {DAY}: no log$")
     (room.folder / LOG).symlink_to("absent")
     yield "a log that is a dangling link", says(room, f"^{STATION} {DAY}: no file: cat: raw/")
-    ran = room.run(script("day.sh", "kiru", DAY))
-    said = f"kiru {DAY}: no file: the name of a station has nine characters, as KIRU00SWE\n"
-    yield "another name", (ran.returncode, ran.stdout.decode()) == (1, said) and room.names("obs") == [STATION]
+    for name in ("kiru", STATION.lower()):
+        ran = room.run(script("day.sh", name, DAY))
+        said = f"{name} {DAY}: no file: the name of a station has nine capital letters and digits, as KIRU00SWE\n"
+        yield f"the name {name}", (ran.returncode, ran.stdout.decode()) == (1, said) and room.names("obs") == [STATION]
 
 
 def try_left(room: Room) -> Outcomes:
@@ -128,6 +129,17 @@ def try_neighbours(room: Room) -> Outcomes:
     room.write(f"raw/{STATION}/{BEFORE}-235945.rtcm3", first + b"-" * 2_000_000)
     room.write(LOG, stream_of([*day_messages(DAY, 119)]))
     yield "a log of the last seconds before it", says(room) and room.epochs(MADE) == day_times()
+    # empty logs are between those that have its ends
+    clear(room)
+    for name, log in (
+        (f"{BEFORE}-230000", day_messages(BEFORE, 2760, EPOCHS + 1)),
+        (f"{BEFORE}-235950", ()),
+        (f"{DAY}-000000", day_messages(DAY, 1, EPOCHS - 1)),
+        (f"{AFTER}-000000", ()),
+        (f"{AFTER}-000010", day_messages(DAY, EPOCHS - 1)),
+    ):
+        room.write(f"raw/{STATION}/{name}.rtcm3", stream_of([*log]))
+    yield "empty logs beside it", says(room) and room.epochs(MADE) == day_times()
 
 
 # the clock time of an hour in an ephemeris of Galileo, and in one of GPS, whose week has ten bits
@@ -336,6 +348,7 @@ def try_headers(room: Room) -> Outcomes:
     for name, lines in (
         ("a last line without an end", HEADER.encode().rstrip(b"\n")),
         ("a header of Windows", b"# of the site log\r\n\r\n" + HEADER.replace("\n", "\r\n").encode()),
+        ("a header with a byte order mark", b"\xef\xbb\xbf" + HEADER.encode()),
     ):
         room.write(HEADERS, lines)
         yield name, says_of(room, log) and "SEPT POLARX5  " in room.text(MADE)
