@@ -50,6 +50,7 @@ trap 'exit 1' HUP INT TERM
 header=headers/$station wanted='' marker=--marker=$station
 end=$(printf '\r') mark=$(printf '\357\273\277')
 set --
+test ! -e headers || test -x headers/. || say "no file: headers is not readable, or no folder"
 if test -e "$header" || test -L "$header"; then
     { test -f "$header" && test -r "$header"; } || say "no file: $header is not readable"
     while IFS= read -r option || test -n "$option"; do

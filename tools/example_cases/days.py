@@ -355,6 +355,9 @@ def try_headers(room: Room) -> Outcomes:
     (room.folder / HEADERS).unlink()
     (room.folder / HEADERS).mkdir()
     yield "headers that can't be read", says(room, "no file: headers/.* is not readable$")
+    shutil.rmtree(room.folder / "headers")
+    room.write("headers", b"")
+    yield "headers that are no folder", says(room, "no file: headers is not readable, or no folder$")
 
 
 def try_kept(room: Room) -> Outcomes:
