@@ -3,8 +3,9 @@
 # checks it. It prints one line if the day lacks something, and then fails. In the current folder are
 #
 #   raw/STATION/    the raw logs, RTCM 3, also compressed by gzip, whose names begin with the day, of GPS time or UTC,
-#                   and all with the time of the day if it has several: 2024-02-04.rtcm3, or
-#                   2024-02-04-130000.rtcm3.gz and others. Files of other endings aren't read
+#                   and with the time of the day if it has several: 2024-02-04.rtcm3, or
+#                   2024-02-04-130000.rtcm3.gz and others, in the order of the names, after one without a time unless
+#                   it begins later. Files of other endings aren't read
 #   headers/STATION options of `rtcm2rinex convert`, one a line, if there is such a file: --rec-type=SEPT POLARX5. They
 #                   are the header texts and others that this script and the plan of `options` don't give; --station
 #                   is given to `options`, and --marker is the name of the station if there is none
@@ -50,7 +51,7 @@ trap 'exit 1' HUP INT TERM
 header=headers/$station wanted='' marker=--marker=$station
 end=$(printf '\r') mark=$(printf '\357\273\277')
 set --
-test ! -e headers || test -x headers/. || say "no file: headers is not readable, or no folder"
+{ test ! -e headers && test ! -L headers; } || test -x headers/. || say "no file: headers is not readable, or no folder"
 if test -e "$header" || test -L "$header"; then
     { test -f "$header" && test -r "$header"; } || say "no file: $header is not readable"
     while IFS= read -r option || test -n "$option"; do
@@ -104,24 +105,49 @@ folder=raw/$station
 test ! -d "$folder" || { test -r "$folder" && test -x "$folder"; } || say "no file: $folder is not readable"
 : > "$raw"
 count=0 others=''
-for log in "$folder/$day"*; do
-    is_log "$log" || continue
-    errors=$(plain "$log" 2>&1 > "$note") || say "no file: $errors"
-    case $(options --near "$day" < "$note") in
-    *OtherWeek*) others="$others ${log##*/}" && continue ;;
-    esac
-    errors=$(cat "$note" 2>&1 >> "$raw") || say "no file: $errors"
-    count=$((count + 1))
-done
+# the time of the first MSM of logs, since half a week before the day
+begin() {
+    for log; do ! is_log "$log" || plain "$log" 2> /dev/null; done | rtcm2rinex show --all 2> /dev/null |
+        awk -v weekday="$(date -u -d "$day" +%w)" '
+            $2 ~ /^1(07|08|09|10|11|12)[4-7]$/ && NF == 8 {
+                print ($4 - ($2 ~ /^108/ ? 10800000 : 0) - weekday * 86400000 + 907200000) % 604800000
+                exit
+            }'
+}
+# Calls a function with the logs of a day. One without a time of the day is before those that have one, which a logger
+# wrote afterwards, unless it begins over a minute later, as it wrote them before: two loggers begin a day together.
+with_logs() {
+    timed=$(begin "$folder/$2"[!.]*)
+    if test "$(begin "$folder/$2".*)" -gt "$((${timed:-0} + 60000))" 2> /dev/null; then
+        "$1" "$folder/$2"[!.]* "$folder/$2".*
+    else
+        "$1" "$folder/$2".* "$folder/$2"[!.]*
+    fi
+}
+take() {
+    for log; do
+        is_log "$log" || continue
+        errors=$(plain "$log" 2>&1 > "$note") || say "no file: $errors"
+        case $(options --near "$day" < "$note") in
+        *OtherWeek*) others="$others ${log##*/}" && continue ;;
+        esac
+        errors=$(cat "$note" 2>&1 >> "$raw") || say "no file: $errors"
+        count=$((count + 1))
+    done
+}
+with_logs take "$day"
 test "$count" -gt 0 || test -z "$others" || say "no file: $(options --near "$day" < "$note")"
 test "$count" -gt 0 || say "no log"
 
 # The first and the last seconds of the day may be in the logs beside it: those of UTC begin 18 seconds after the GPS
 # day. The day is made without such a log if it is damaged, of another week, or of a station at another position. An
-# empty one is none, as of a logger that was started in vain.
+# empty one is none, as of a logger that was started in vain, also if it is compressed.
 last='' next=''
-for log in "$folder/$before"*; do is_log "$log" && test -s "$log" && last=$log; done
-for log in "$folder/$after"*; do is_log "$log" && test -s "$log" && next=$log && break; done
+has_bytes() { is_log "$1" && test "$(plain "$1" 2> /dev/null | head -c 1 | wc -c)" -gt 0; }
+take_last() { for log; do ! has_bytes "$log" || last=$log; done; }
+take_next() { for log; do ! has_bytes "$log" || { next=$log && return; }; done; }
+with_logs take_last "$before"
+with_logs take_next "$after"
 has_neighbour() { test -e "$last" || test -e "$next"; }
 earlier() {
     case $last in

@@ -90,6 +90,27 @@ def try_day(room: Room) -> Outcomes:
         yield f"the name {name}", (ran.returncode, ran.stdout.decode()) == (1, said) and room.names("obs") == [STATION]
 
 
+def try_layouts(room: Room) -> Outcomes:
+    # a logger names its logs by hours from noon on, and another one goes on with that of the day, or doesn't
+    log = day_log(DAY)
+    half = len(log) // 2
+    for name, end in (("half of a day", half + 9000), ("a day", len(log))):
+        clear(room)
+        room.write(LOG, log[:end])
+        room.write(f"raw/{STATION}/{DAY}-120000.rtcm3", log[half - 9000 :])
+        yield f"the logs of {name} and of hours", says(room) and room.epochs(MADE) == day_times()
+    # or it names them by hours until noon
+    clear(room)
+    room.write(f"raw/{STATION}/{DAY}-000000.rtcm3", log[: half + 9000])
+    room.write(LOG, log[half - 9000 :])
+    yield "the logs of hours and of half of a day", says(room) and room.epochs(MADE) == day_times()
+    # two loggers, of which that of hours began earlier, and lacks one
+    clear(room)
+    for name, first, end in (("", 0, EPOCHS + 1), ("-000000", -1, 1200), ("-110000", 1320, EPOCHS + 1)):
+        room.write(f"raw/{STATION}/{DAY}{name}.rtcm3", stream_of([*day_messages(DAY, first, end)]))
+    yield "the logs of two loggers", says(room) and room.epochs(MADE) == day_times()
+
+
 def try_left(room: Room) -> Outcomes:
     # what a power cut left days ago goes, and what another run writes stays
     left = [f"obs/{STATION}/{name}" for name in (f"{DAY}.71.raw", f"{MADE.rsplit('/')[-1]}.71.part", f"{DAY}.72.raw")]
@@ -140,6 +161,31 @@ def try_neighbours(room: Room) -> Outcomes:
     ):
         room.write(f"raw/{STATION}/{name}.rtcm3", stream_of([*log]))
     yield "empty logs beside it", says(room) and room.epochs(MADE) == day_times()
+    for name in (f"{BEFORE}-235950", f"{AFTER}-000000"):
+        (room.folder / f"raw/{STATION}/{name}.rtcm3").unlink()
+        room.write(f"raw/{STATION}/{name}.rtcm3.gz", gzip.compress(b""))
+    yield "empty compressed logs beside it", says(room) and room.epochs(MADE) == day_times()
+    # the days beside it have a log without a time and, from noon on, those of hours
+    clear(room)
+    for name, log in (
+        (BEFORE, day_messages(BEFORE, 0, 1440)),
+        (f"{BEFORE}-230000", day_messages(BEFORE, 2760, EPOCHS + 1)),
+        (f"{DAY}-000000", day_messages(DAY, 1, EPOCHS - 1)),
+        (AFTER, day_messages(DAY, EPOCHS - 1, EPOCHS + 1440)),
+        (f"{AFTER}-120000", day_messages(AFTER, 1440, 1560)),
+    ):
+        room.write(f"raw/{STATION}/{name}.rtcm3", stream_of([*log]))
+    yield "logs beside it of both layouts", says(room) and room.epochs(MADE) == day_times()
+    clear(room)
+    for name, log in (
+        (f"{BEFORE}-110000", day_messages(BEFORE, 1320, 1440)),
+        (BEFORE, day_messages(BEFORE, 1440, EPOCHS + 1)),
+        (f"{DAY}-000000", day_messages(DAY, 1, EPOCHS - 1)),
+        (f"{AFTER}-000000", day_messages(DAY, EPOCHS - 1, EPOCHS + 1440)),
+        (AFTER, day_messages(AFTER, 1440, 1560)),
+    ):
+        room.write(f"raw/{STATION}/{name}.rtcm3", stream_of([*log]))
+    yield "logs beside it of hours, then of the day", says(room) and room.epochs(MADE) == day_times()
 
 
 # the clock time of an hour in an ephemeris of Galileo, and in one of GPS, whose week has ten bits
@@ -358,6 +404,9 @@ def try_headers(room: Room) -> Outcomes:
     shutil.rmtree(room.folder / "headers")
     room.write("headers", b"")
     yield "headers that are no folder", says(room, "no file: headers is not readable, or no folder$")
+    (room.folder / "headers").unlink()
+    (room.folder / "headers").symlink_to("absent")
+    yield "headers that are a dangling link", says(room, "no file: headers is not readable, or no folder$")
 
 
 def try_kept(room: Room) -> Outcomes:
