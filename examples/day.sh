@@ -8,7 +8,8 @@
 #                   it begins later. Files of other endings aren't read
 #   headers/STATION options of `rtcm2rinex convert`, one a line, if there is such a file: --rec-type=SEPT POLARX5. They
 #                   are the header texts and others that this script and the plan of `options` don't give; --station
-#                   is given to `options`, and --marker is the name of the station if there is none
+#                   is given to `options`, --marker is the name of the station if there is none, and --leap-seconds
+#                   replaces that of the plan
 #   obs/STATION/    the file with its RINEX name, the values of its signals with station and position, and last, by
 #                   which days.sh knows that the day is done, the report of the conversion, unless the day isn't over
 #
@@ -48,7 +49,7 @@ trap 'rm -f "$part" "$raw" "$note"' EXIT
 trap 'exit 1' HUP INT TERM
 
 # the options of the station
-header=headers/$station wanted='' marker=--marker=$station
+header=headers/$station wanted='' marker=--marker=$station leap=''
 end=$(printf '\r') mark=$(printf '\357\273\277')
 set --
 { test ! -e headers && test ! -L headers; } || test -x headers/. || say "no file: headers is not readable, or no folder"
@@ -62,6 +63,9 @@ if test -e "$header" || test -L "$header"; then
         "" | "#"*) ;;
         --station=*) wanted=$option ;;
         --marker=*) marker=$option ;;
+        # no number, which convert refuses
+        --leap-seconds= | --leap-seconds=*[!0-9]*) set -- "$@" "$option" ;;
+        --leap-seconds=*) leap=${option#*=} ;;
         *) set -- "$@" "$option" ;;
         esac
     done < "$header"
@@ -175,6 +179,7 @@ convert() {
     to=$1
     shift
     plan=$(logs | options --near "$day") || { errors=$plan && return 1; }
+    test -z "$leap" || plan=$(echo "$plan" | sed "s/--leap-seconds [0-9]*/--leap-seconds $leap/")
     report=$(logs | rtcm2rinex convert --gather time --interval 30 --from "$day" --until "$after" \
         --date "$(date -u '+%Y%m%d %H%M%S UTC')" $plan "$@" 2>&1 > "$to") || { errors=$report && return 1; }
 }
@@ -209,9 +214,9 @@ late=0
 case $report in
 *" late 0 "*) ;;
 *)
-    leap=${plan##*--leap-seconds }
-    test "$leap" != "$plan" || leap=18
-    late=$(logs | rtcm2rinex show --all | awk -v own="${wanted#--station=}" -v leap="${leap%% *}" -v week=604800000 \
+    offset=${plan##*--leap-seconds }
+    test "$offset" != "$plan" || offset=18
+    late=$(logs | rtcm2rinex show --all | awk -v own="${wanted#--station=}" -v leap="${offset%% *}" -v week=604800000 \
         -v day=86400000 -v weekday="$(date -u -d "$day" +%w)" '
         own != "" && $3 != own { next }
         $2 ~ /^1(07|08|09|10|11|12)[4-7]$/ && NF == 8 && !seen[$2, $3, $4, $5, $6, $7, $8]++ {

@@ -398,6 +398,16 @@ def try_headers(room: Room) -> Outcomes:
     ):
         room.write(HEADERS, lines)
         yield name, says_of(room, log) and "SEPT POLARX5  " in room.text(MADE)
+    # after a further leap second GLONASS is a second earlier
+    moments = [at(DAY) + STEP * n for n in range(-1, EPOCHS + 1)]
+    gps = messages_of(moments, Form({"G": 4}, {"G": (2,)}))
+    glonass = messages_of([moment - 1000 for moment in moments], Form({"R": 4}, {"R": (2,)}))[1:]
+    both = stream_of([gps[0], *(message for pair in zip(gps[1:], glonass) for message in pair)])
+    room.write(HEADERS, b"--leap-seconds=19\n")
+    yield "a leap second", says_of(room, both) and body_of(room.text(MADE)).count("\nR") == 4 * EPOCHS
+    for value in ("", "19s", "1/2"):
+        room.write(HEADERS, f"--leap-seconds={value}\n".encode())
+        yield f"the leap seconds {value}", says_of(room, log, f"no file: error: invalid value '{value}' for '--leap-s")
     (room.folder / HEADERS).unlink()
     (room.folder / HEADERS).mkdir()
     yield "headers that can't be read", says(room, "no file: headers/.* is not readable$")
