@@ -176,9 +176,8 @@ impl Converter {
         ensures refused { IfSome (refusal self.old)
             (λ fault. (result ≡ Err fault) × (self.new ≡ self.old) × (writer.new ≡ writer.old)) }
         // The rest of the file was written, and that is the report.
-        ensures whole { IfOk result
-            (FinishesNow self.old self.new (W.waiting writer.new.inner) (W.contents writer.old.inner)
-            (W.contents writer.new.inner)) }
+        ensures whole { IfOk result (FinishesNow self.old self.new (W.waiting writer.new.inner)
+            (W.contents writer.old.inner) (W.contents writer.new.inner)) }
         // Nothing was written: no epoch of the whole stream has a value, or none that has one is chosen.
         ensures empty { (fault : Fault) → IsOfNone fault → IsErrOf result fault
             → FinishesEmptyNow self.old self.new (W.waiting writer.new.inner) (W.contents writer.old.inner)
@@ -251,10 +250,8 @@ impl Converter {
         // The file of all the bytes, those accepted before and those of the pieces, was completed,
         // with that report, and the converter holds and has examined the values for all bytes,
         // within the bounds.
-        ensures whole { IfOk result
-            (λ report.
-            CompletesFile self.old self.new (W.waiting writer.new.inner) (W.contents writer.old.inner)
-            (W.contents writer.new.inner) report (joined_pieces pieces.now)) }
+        ensures whole { IfOk result (λ report. CompletesFile self.old self.new (W.waiting writer.new.inner)
+            (W.contents writer.old.inner) (W.contents writer.new.inner) report (joined_pieces pieces.now)) }
         // Nothing was written: no epoch of the whole stream has a value, or none that has one is chosen.
         ensures empty { (fault : Fault) → IsOfNone fault → IsErrOf result fault
             → CompletesEmptyFile self.old self.new (W.waiting writer.new.inner) (W.contents writer.old.inner)

@@ -31,8 +31,7 @@ pub fn convert_stream<R: Read, W: Deliver>(
 ) -> Result<Report, Fault>
     // The file that was written is the one of the stream's frames in order, has an epoch, and is
     // the text of a file value; and that is its report.
-    ensures made { IfOk result (λ report.
-        IfSome (R.remaining reader.old.inner)
+    ensures made { IfOk result (λ report. IfSome (R.remaining reader.old.inner)
         (IsMadeWith setup report (W.contents writer.old.inner) (W.contents writer.new.inner))) }
     // The file has no epoch and is empty, as no epoch of the stream has a value, or none that has
     // one is chosen.

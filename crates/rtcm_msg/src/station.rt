@@ -161,8 +161,7 @@ fn parts_in(bytes: &[u8], has_height: bool) -> StationParts
 /// `Short` if a field does not end within the message.
 pub(crate) fn view_station(bytes: &[u8], has_height: bool) -> Result<View<'_>, MsgFault>
     requires { HasBits bytes.now 12 }
-    ensures { GivesViewed viewed_message result
-        (station_message_at has_height (cursor_at (bits_of bytes.now) 12)) }
+    ensures { GivesViewed viewed_message result (station_message_at has_height (cursor_at (bits_of bytes.now) 12)) }
 {
     end_of_fields(bytes, &STATION_WIDTHS[..12 + has_height as usize], 1, 12)?;
     let parts = parts_in(bytes, has_height);

@@ -285,8 +285,7 @@ impl<'a> Model for Entries<'a> {
 impl<'a> Entries<'a> {
     /// Returns the next cell, or `None` after the last one.
     pub fn next(&mut self) -> Option<Entry>
-        ensures some { IfSome result (λ e. (self.old.left ≡ e ∷ self.new.left)
-            × IsEntry (lock_codes self.old.form) e) }
+        ensures some { IfSome result (λ e. (self.old.left ≡ e ∷ self.new.left) × IsEntry (lock_codes self.old.form) e) }
         ensures none { IfNone result ((self.old.left ≡ []) × (self.new.left ≡ [])) }
         ensures same { self.new.form ≡ self.old.form }
     {
@@ -303,8 +302,7 @@ impl<'a> Entries<'a> {
     #[inline(always)]
     pub fn next_in<const F: usize>(&mut self) -> Option<Entry>
         requires form { inner_forms.form_as F ≡ self.old.form }
-        ensures some { IfSome result (λ e. (self.old.left ≡ e ∷ self.new.left)
-            × IsEntry (lock_codes self.old.form) e) }
+        ensures some { IfSome result (λ e. (self.old.left ≡ e ∷ self.new.left) × IsEntry (lock_codes self.old.form) e) }
         ensures none { IfNone result ((self.old.left ≡ []) × (self.new.left ≡ [])) }
         ensures same { self.new.form ≡ self.old.form }
     {

@@ -54,8 +54,7 @@ pub(crate) fn write_station(writer: &mut BitWriter, parts: &StationParts)
 /// Writes the header of an MSM with its message number, and the masks, DF394 to DF396.
 pub(crate) fn write_head(writer: &mut BitWriter, number: u16, header: &MsmHeader, masks: &Masks)
     requires { length writer.old + 233 ≤ longest_message_bits }
-    ensures bits { writer.new ≡ writer.old
-        ++ field_bits (header_fields number header.now 0 ++ mask_fields masks.now) }
+    ensures bits { writer.new ≡ writer.old ++ field_bits (header_fields number header.now 0 ++ mask_fields masks.now) }
     ensures len { length writer.new ≤ length writer.old + 233 }
 {
     // Brings the bound on the number of pairs into the proof.

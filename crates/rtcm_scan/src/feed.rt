@@ -63,8 +63,7 @@ impl Framer {
         requires can { S.can_take sink.old }
         requires going { self.old.has_ended ≡ true → length piece.now ≡ 0 }
         ensures goes { S.can_take sink.new }
-        ensures whole { IfOk result
-            (TakesPiece S.took self.old sink.old out.old self.new sink.new out.new piece.now) }
+        ensures whole { IfOk result (TakesPiece S.took self.old sink.old out.old self.new sink.new out.new piece.now) }
         ensures part { OnErr result (Breaks S.took S.broke self.old sink.old out.old sink.new out.new piece.now) }
         ensures same { Continues self.old self.new (length piece.now) }
     {

@@ -44,10 +44,8 @@ pub trait FrameSink<O> {
     /// `Self::Fault` if the output could not be passed on.
     fn send(&self, out: &mut O) -> Result<(), Self::Fault>
         ensures sent { OnOk result (is_sent out.new) }
-        ensures whole { OnOk result
-            ((s : Self) (o : O) (ps fs : List Framed) → took s o ps self.now out.old fs
+        ensures whole { OnOk result ((s : Self) (o : O) (ps fs : List Framed) → took s o ps self.now out.old fs
             → took s o ps self.now out.new fs) }
-        ensures part { OnErr result
-            ((s : Self) (o : O) (ps fs : List Framed) → took s o ps self.now out.old fs
+        ensures part { OnErr result ((s : Self) (o : O) (ps fs : List Framed) → took s o ps self.now out.old fs
             → broke s o ps self.now out.new fs fs) };
 }
