@@ -8,9 +8,9 @@ longest_start = 100
 abbrev pub longest_error : ℕ
 longest_error = 120
 
--- the most bytes of the name of a fault, and of this name and the field or the code in which the fault is
+-- the most bytes of the name of a fault, and of the field or the code in which it is, each after a blank
 abbrev pub longest_fault_name : ℕ
 longest_fault_name = 20
 
-abbrev pub longest_fault : ℕ
-longest_fault = 60
+abbrev pub longest_fault_place : ℕ
+longest_fault_place = 40
