@@ -1,13 +1,12 @@
 //! The command `check`: whether the input is a file as `convert` writes it, its counts, the times
 //! of its epochs, and the gaps between them.
-ghost use Rattle.std.specs.Prelude.{◌≡◌, ◌+◌, ◌*◌, ◌<◌, ◌≤◌, ◌++◌, ◌∷◌, [], List, Option, ℕ, IfSome, MatchResult};
+ghost use Rattle.std.specs.Prelude.{◌≡◌, ◌+◌, ◌<◌, ◌≤◌, ◌++◌, ◌∷◌, [], List, Option, ℕ, IfSome, MatchResult};
 ghost use Rattle.std.specs.Prelude.{is_some, true, length};
-ghost use Rattle.gnss_obs.specs.Weeks.{week, weeks};
 ghost use Rattle.line_texts.specs.Lines.{IsTextWithin};
 ghost use Rattle.rinex_file.specs.Blocks.{LeavesRest};
 ghost use Rattle.rinex_file.specs.Counting.{AreCounts, IsSummary};
 ghost use Rattle.rinex_file.specs.FileValues.{IsFileValue};
-ghost use Rattle.rinex_file.specs.Value.{FileValue, Stamped};
+ghost use Rattle.rinex_file.specs.Value.{FileValue};
 ghost use Rattle.devices.specs.Devices.{Changes, Writes};
 ghost use Rattle.rinex_inspect.specs.CheckOutput.{check_line, counts_alone, times_if, times_in};
 ghost use Rattle.rinex_inspect.specs.Checking.{AcceptsFiles, EndsCheck, ReadsFile};
@@ -18,7 +17,7 @@ ghost use Rattle.rinex_inspect.specs.DateTexts.{step_line, time_line};
 ghost use Rattle.rinex_inspect.specs.Gaps.{IsCompleteness, gap_between, is_inside};
 ghost use Rattle.rinex_inspect.specs.inner.Missing.{complete_but, end_gap_if, end_missing_if, first_with, gap_with};
 ghost use Rattle.rinex_inspect.specs.inner.Missing.{longest_gap, missing_between, missing_with};
-ghost use Rattle.rinex_inspect.specs.inner.Reading.{CountsMissing, IsEndOutput, Prints, ReadsGaps};
+ghost use Rattle.rinex_inspect.specs.inner.Reading.{CountsMissing, IsEndOutput, PrintsIfSent, ReadsGaps};
 
 use crate::fault::FileFault;
 use crate::gaps::{Completeness, Placed, last_placed};
@@ -164,7 +163,7 @@ fn print_gap<W: Deliver>(
 ) -> Result<u64, FileFault>
     ensures fits { IfSome complete.now IsCompleteness }
     ensures line { Writes W.contents W.waiting writer.old writer.new
-        (Prints result (gap_with complete.now before time)) }
+        (PrintsIfSent result (gap_with complete.now before time)) }
     ensures ends { MatchResult result
         (λ n. n ≡ missing_with complete.now before time) (λ _. is_some complete.now ≡ true) }
 {

@@ -1,6 +1,5 @@
 //! The indexes of epochs at an interval, and the gaps between them.
-ghost use Rattle.std.specs.Prelude.{◌≡◌, ◌<◌, ◌≤◌, ◌*◌, option_to_list};
-ghost use Rattle.gnss_obs.specs.Weeks.{week, weeks};
+ghost use Rattle.std.specs.Prelude.{◌≡◌, ◌<◌, option_to_list};
 ghost use Rattle.rinex_inspect.specs.CheckOutput.{size_of};
 ghost use Rattle.rinex_inspect.specs.Gaps.{IsCompleteness, capped, early, ends_in, is_in_window, origin_in, placed};
 ghost use Rattle.rinex_inspect.specs.Gaps.{window_size};

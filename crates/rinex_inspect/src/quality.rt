@@ -12,7 +12,7 @@ ghost use Rattle.rinex_inspect.specs.QualityOutput.{period_of};
 ghost use Rattle.rinex_inspect.specs.inner.QualityLines.{IsPrintable};
 ghost use Rattle.rinex_inspect.specs.inner.Rating.{AreTables, IsStart, RatesEpoch, RatesNext, RatesPeriods, ReadsRows, end_text};
 ghost use Rattle.rinex_inspect.specs.inner.Rating.{period_text};
-ghost use Rattle.rinex_inspect.specs.inner.Reading.{Prints};
+ghost use Rattle.rinex_inspect.specs.inner.Reading.{PrintsIfSent};
 ghost use Rattle.gnss_obs.specs.Intervals.{IsInterval};
 ghost use Rattle.rinex_inspect.specs.inner.Tables.{IsTableOf};
 
@@ -241,7 +241,7 @@ fn print_period<W: Deliver>(
     requires fits { IsPrintable table.now (plan_of file.now) }
     requires within { IfSome every.now (λ n. period * n < weeks * week) }
     ensures { Writes W.contents W.waiting writer.old writer.new
-        (Prints result (period_text every.now (plan_of file.now) table.now period)) }
+        (PrintsIfSent result (period_text every.now (plan_of file.now) table.now period)) }
 {
     match every {
         Some(every) => {
@@ -264,7 +264,7 @@ fn print_end<W: Deliver>(
     requires fits { IsPrintable tables.now.current (plan_of file.now) }
     requires within { IfSome every.now (λ n. tables.now.period * n < weeks * week) }
     ensures { (v : FileValue) → AreCounts counts.now v → Writes W.contents W.waiting writer.old writer.new
-        (Prints result (end_text every.now (plan_of file.now) tables.now v)) }
+        (PrintsIfSent result (end_text every.now (plan_of file.now) tables.now v)) }
 {
     match every {
         Some(_) => print_period(every, &tables.current, tables.period, file, writer),

@@ -1,5 +1,5 @@
 //! The lines of `quality`.
-ghost use Rattle.std.specs.Prelude.{◌≡◌, ◌<◌, ◌≤◌, ◌+◌, ◌++◌, ◌∷◌, [], length, ℕ, get_or, ◌^◌};
+ghost use Rattle.std.specs.Prelude.{◌≡◌, ◌<◌, ◌≤◌, ◌+◌, ◌++◌, ◌∷◌, length, ℕ, get_or, ◌^◌};
 ghost use Rattle.std.specs.List.{count_by, sum_by};
 ghost use Rattle.devices.specs.Devices.{Writes};
 ghost use Rattle.gnss_obs.specs.Plans.{below};
@@ -13,7 +13,7 @@ ghost use Rattle.rinex_inspect.specs.QualityOutput.{presence_words, signal_line,
 ghost use Rattle.rinex_inspect.specs.Tallies.{has_values, no_tally, total};
 ghost use Rattle.rinex_inspect.specs.inner.QualityLines.{AreSmallTallies, IsPrintable, IsSmallTally, all_lines};
 ghost use Rattle.rinex_inspect.specs.inner.QualityLines.{line_at, line_count, longest_tally, system_lines};
-ghost use Rattle.rinex_inspect.specs.inner.Reading.{Prints};
+ghost use Rattle.rinex_inspect.specs.inner.Reading.{PrintsIfSent};
 ghost use Rattle.rinex_inspect.specs.inner.Tables.{contents_in, no_record, tally_at};
 
 use crate::check::add_instant;
@@ -52,7 +52,7 @@ pub(crate) fn print_lines<W: Deliver>(
     writer: &mut Counted<W>,
 ) -> Result<(), FileFault>
     ensures { Writes W.contents W.waiting writer.old writer.new
-        (Prints result (all_lines lines.now (plan_of rated.now.file.now) (contents_in rated.now.table.now))) }
+        (PrintsIfSent result (all_lines lines.now (plan_of rated.now.file.now) (contents_in rated.now.table.now))) }
 {
     for i in 0..SYSTEMS.len() {
         print_system(lines, rated, System::at(i), writer)?;
@@ -68,7 +68,7 @@ fn print_system<W: Deliver>(
     writer: &mut Counted<W>,
 ) -> Result<(), FileFault>
     ensures { Writes W.contents W.waiting writer.old writer.new
-        (Prints result (system_lines lines.now (plan_of rated.now.file.now) (contents_in rated.now.table.now) system)) }
+        (PrintsIfSent result (system_lines lines.now (plan_of rated.now.file.now) (contents_in rated.now.table.now) system)) }
 {
     for index in 0..line_count(lines, rated, system) {
         print_if(&line_at(lines, rated, system, index), writer)?;
@@ -78,7 +78,7 @@ fn print_system<W: Deliver>(
 
 /// Writes a line, unless it is empty.
 fn print_if<W: Deliver>(text: &OutputLine, writer: &mut Counted<W>) -> Result<(), FileFault>
-    ensures { Writes W.contents W.waiting writer.old writer.new (Prints result text.now) }
+    ensures { Writes W.contents W.waiting writer.old writer.new (PrintsIfSent result text.now) }
 {
     let bytes = text.as_bytes();
     if bytes.is_empty() {

@@ -21,8 +21,8 @@ use Rattle.rinex_inspect.specs.declared.fault.FileFault.TheVariants as faults
 use Rattle.rinex_inspect.specs.inner.Missing.{Rise, missing_if}
 
 -- if nothing waited in the writer, this text was written, or a part of it at a fault
-abbrev pub Prints : {A W : Type 0} → Result A FileFault → List ℕ → (w w' : Writer W) → Type 0
-Prints result text w w' = w.waiting ≡ [] → EndsPrinting faults.Write result text w w'
+abbrev pub PrintsIfSent : {A W : Type 0} → Result A FileFault → List ℕ → (w w' : Writer W) → Type 0
+PrintsIfSent result text w w' = w.waiting ≡ [] → EndsPrinting faults.Write result text w w'
 
 -- this number of places is missing before the epochs at these times, which rise
 abbrev pub CountsMissing : Option Completeness → List ℕ → ℕ → Type 0
