@@ -6,7 +6,8 @@
 #   DAY=2024-02-04 sh convert.sh s.rtcm3 s.obs
 # and for one of several stations its number, as STATION=2003. Further options are those of `rtcm2rinex convert` that
 # the script and the plan of `options` don't give, such as --interval 30. The report is printed. If the ephemerides of
-# a recording with a date have several weeks, as after a gap of over half a week, it reports them and fails.
+# BeiDou or Galileo of a recording with a date have several weeks, as after a gap of over half a week, it reports them
+# and fails.
 set -eu
 : "${2:?usage: convert.sh RAW OBS [OPTION ..]}"
 raw=$1 obs=$2

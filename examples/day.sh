@@ -207,9 +207,9 @@ case $report in
 esac
 
 # Logs that overlap repeat messages, which are counted as late. Lost is a message of the day and of an earlier time than
-# one before it, if it comes for the first time: one of several of its number and time has other numbers of satellites,
-# signals and cells. Times of BeiDou are 14 seconds less than GPS time, those of GLONASS are of Moscow, without leap
-# seconds.
+# one before it, if it comes for the first time: of several of its number and time those with other numbers of
+# satellites, signals and cells are told apart, and others aren't. Times of BeiDou are 14 seconds less than GPS time,
+# those of GLONASS are of Moscow, without leap seconds.
 late=0
 case $report in
 *" late 0 "*) ;;

@@ -15,7 +15,8 @@ test "$plan" || {
 }
 stream=$2 obs=$3-$(date -u +%Y%m%dT%H%M%SZ).obs
 shift 3
-# Its week is wrong if the stream began half a week after the start, or paused for half a week.
+# Its week is wrong if the stream began half a week after the start, or paused for half a week. The command date is that
+# of GNU.
 last_epoch() {
     tail -c 1000000 -- "$obs" | awk '
         /^> [0-9]/ { last = $2 "-" $3 "-" $4 " " $5 ":" $6 }
