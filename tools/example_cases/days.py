@@ -150,8 +150,10 @@ def try_neighbours(room: Room) -> Outcomes:
     room.write(f"raw/{STATION}/{BEFORE}-235945.rtcm3", first + b"-" * 2_000_000)
     room.write(LOG, stream_of([*day_messages(DAY, 119)]))
     yield "a log of the last seconds before it", says(room) and room.epochs(MADE) == day_times()
+
+
+def try_neighbours_of_hours(room: Room) -> Outcomes:
     # empty logs are between those that have its ends
-    clear(room)
     for name, log in (
         (f"{BEFORE}-230000", day_messages(BEFORE, 2760, EPOCHS + 1)),
         (f"{BEFORE}-235950", ()),
