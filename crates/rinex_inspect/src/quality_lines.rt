@@ -68,7 +68,8 @@ fn print_system<W: Deliver>(
     writer: &mut Counted<W>,
 ) -> Result<(), FileFault>
     ensures { Writes W.contents W.waiting writer.old writer.new
-        (PrintsIfSent result (system_lines lines.now (plan_of rated.now.file.now) (contents_in rated.now.table.now) system)) }
+        (PrintsIfSent result
+        (system_lines lines.now (plan_of rated.now.file.now) (contents_in rated.now.table.now) system)) }
 {
     for index in 0..line_count(lines, rated, system) {
         print_if(&line_at(lines, rated, system, index), writer)?;
