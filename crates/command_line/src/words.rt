@@ -1,7 +1,6 @@
 //! The words of the command line.
-ghost use Rattle.std.specs.Prelude.{◌≡◌, ◌&&◌, ◌+◌, ◌<◌, ◌∷◌, ◌++◌, IfOk, get_or, length, map, nat_lt, string_bytes};
-ghost use Rattle.std.specs.Str.{bytes_eq};
-ghost use Rattle.command_line.specs.Words.{has_value_at, is_negative, joined, position};
+ghost use Rattle.std.specs.Prelude.{◌≡◌, ◌&&◌, ◌+◌, ◌<◌, ◌∷◌, ◌++◌, IfOk, length, map, string_bytes};
+ghost use Rattle.command_line.specs.Words.{has_value_at, is_negative, joined};
 
 use std::alloc::{AllocError, Global};
 

@@ -1,8 +1,8 @@
 //! A buffer before a writer, so that many small writes make few calls of a device.
-ghost use Rattle.std.specs.Prelude.{◌≡◌, ◌+◌, ◌-◌, ◌<◌, ◌≤◌, [], ◌++◌, false, length, min, take, Ok, OnOk};
-ghost use Rattle.std.specs.Prelude.{IfOk, vec_len, vec_capacity};
+ghost use Rattle.std.specs.Prelude.{◌≡◌, ◌+◌, ◌-◌, ◌<◌, ◌≤◌, [], false, length, min, Ok, OnOk};
+ghost use Rattle.std.specs.Prelude.{IfOk, vec_capacity};
 ghost use Rattle.std.specs.Io.{WritesAtMost};
-ghost use Rattle.std.specs.Io.KnownBytes.{Keeps, Appends, WriteAppends};
+ghost use Rattle.std.specs.Io.KnownBytes.{Keeps, WriteAppends};
 ghost use Rattle.devices.specs.Buffering.{StaysFailed, buffer_bytes, contents_of, waiting_of};
 ghost use Rattle.std.proofs.Common.{rules};
 ghost use Rattle.std.proofs.lemmas.Grind.{common_steps};

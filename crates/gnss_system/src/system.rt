@@ -89,7 +89,7 @@ impl System {
     }
 
     ghost use Rattle.gnss_system.specs.Satellites.{satellites, most_satellites, first_number, number_of, satellite_set};
-    ghost use Rattle.gnss_system.specs.Satellites.{Satellite, IsSatellite};
+    ghost use Rattle.gnss_system.specs.Satellites.{IsSatellite};
     ghost use Rattle.gnss_system.specs.Satellites.{name_of, letter, system_of_letter};
     ghost use Rattle.gnss_system.specs.Satellites.{msm_tens, system_of_tens, time_scale};
     ghost use Rattle.gnss_system.specs.Signals.{table, most_signals, rows, first_key};

@@ -1,6 +1,6 @@
 //! Loss of lock in epochs off the grid: for each satellite and signal, whether its phase in the next
 //! epoch on the grid is to be marked.
-ghost use Rattle.std.specs.Prelude.{◌≡◌, ◌<◌, ◌≤◌, if◌then◌else◌, length, IfOk};
+ghost use Rattle.std.specs.Prelude.{◌≡◌, ◌<◌, if◌then◌else◌, length, IfOk};
 ghost use Rattle.obs_epoch.specs.inner.Held.{AreKeysOf};
 ghost use Rattle.obs_epoch.specs.inner.Marks.{any_loss, carried_from, carried_to, no_marks, note_lost, note_losses};
 ghost use Rattle.obs_epoch.specs.GathererHistory.{is_lost_in};

@@ -1,6 +1,6 @@
 //! Why a command that reads a file stopped, and the name of the fault, with what it carries, as
 //! words of a line.
-ghost use Rattle.std.specs.Prelude.{◌≡◌, ◌+◌, ◌≤◌, length};
+ghost use Rattle.std.specs.Prelude.{◌≤◌, length};
 ghost use Rattle.line_texts.specs.Lines.{AddsWords};
 ghost use Rattle.line_texts.specs.inner.Errors.{longest_error, longest_start};
 ghost use Rattle.rinex_inspect.specs.Faults.{file_words, read_words};

@@ -1,5 +1,5 @@
 //! The table of what each satellite and signal has in some epochs.
-ghost use Rattle.std.specs.Prelude.{◌≡◌, ◌<◌, ◌≤◌, ◌-◌, ◌+◌, IfOk, length, ℕ, get_or, set};
+ghost use Rattle.std.specs.Prelude.{◌≡◌, ◌<◌, ◌≤◌, ◌-◌, IfOk, length, ℕ, get_or, set};
 ghost use Rattle.gnss_system.specs.Satellites.{satellites};
 ghost use Rattle.gnss_system.specs.Signals.{most_signals};
 ghost use Rattle.rinex_inspect.specs.inner.Tables.{HasAdded, HasAddedRow, HasPlaces, IsBlankRecord, IsBlankTable};

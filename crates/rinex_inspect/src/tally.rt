@@ -1,5 +1,5 @@
 //! What satellites and their signals have in the epochs so far.
-ghost use Rattle.std.specs.Prelude.{◌≡◌, ◌+◌, is_some};
+ghost use Rattle.std.specs.Prelude.{◌≡◌, is_some};
 ghost use Rattle.rinex_inspect.specs.Tallies.{has_values, is_half, is_lost, no_tally, strength_of};
 ghost use Rattle.rinex_inspect.specs.inner.Tables.{plus, with_values};
 

@@ -1,6 +1,6 @@
 //! The last bytes of a long message that were folded: taken away and added to bytes further on, so
 //! that the CRC stays the same.
-ghost use Rattle.std.specs.Prelude.{◌≡◌, ℕ, List, [], ◌/◌, ◌%◌, ◌∷◌, ◌++◌, drop, length, take, replicate};
+ghost use Rattle.std.specs.Prelude.{◌≡◌, ℕ, List, ◌/◌, ◌%◌, ◌∷◌, ◌++◌, drop, length, take, replicate};
 ghost use Rattle.rtcm_bits.specs.inner.Folding.{fold_into, Sixes};
 
 use std::marker::Model;

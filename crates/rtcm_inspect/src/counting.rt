@@ -1,5 +1,5 @@
 //! The signals of a stream, counted while it is read.
-ghost use Rattle.std.specs.Prelude.{◌≡◌, ℕ, Some, List, Ok, IfOk, IfErr};
+ghost use Rattle.std.specs.Prelude.{◌≡◌, Some, Ok, IfOk, IfErr};
 ghost use Rattle.rtcm_msg.specs.Decoding.{message_at};
 ghost use Rattle.rtcm_msg.specs.Fields.{GivesViewed};
 ghost use Rattle.rtcm_msg.specs.inner.Viewed.{viewed_message};

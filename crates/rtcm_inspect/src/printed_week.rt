@@ -1,6 +1,6 @@
 //! The week of the options: that nearest to a date, or that of the stream's ephemerides.
 ghost use Rattle.std.specs.Prelude.{◌≡◌, ◌+◌, ◌*◌, ◌/◌, ◌<◌, ◌≤◌, ◌^◌, ℕ, List, Option, Some, MatchOption};
-ghost use Rattle.std.specs.Prelude.{false, true, if◌then◌else◌};
+ghost use Rattle.std.specs.Prelude.{false, true};
 ghost use Rattle.std.specs.List.{list_any};
 ghost use Rattle.gnss_obs.specs.Weeks.{week};
 ghost use Rattle.rtcm_inspect.specs.FaultWords.{week_date};

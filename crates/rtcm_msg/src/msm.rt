@@ -1,7 +1,7 @@
 //! Values of MSMs, with the fields of each satellite and of each cell packed in one number.
 ghost use Rattle.std.specs.Prelude.{◌≡◌, ◌<◌, ◌^◌, ◌++◌, ◌≤◌, All, map, length, slice_index, count_ones};
 ghost use Rattle.std.specs.Prelude.{Some, None, IfOk, IfErr};
-ghost use Rattle.rtcm_msg.specs.Msm.{IsHeader, satellite_mask_bits, most_pairs};
+ghost use Rattle.rtcm_msg.specs.Msm.{IsHeader, most_pairs};
 ghost use Rattle.rtcm_msg.specs.inner.Refusals.{data_refusal};
 ghost use Rattle.rtcm_msg.specs.Columns.{EachBelow};
 ghost use Rattle.rtcm_msg.specs.Forms.{IsMsm, IsSatelliteData, IsCellData, msm_of_parts};

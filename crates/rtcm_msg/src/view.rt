@@ -12,7 +12,6 @@ ghost use Rattle.rtcm_msg.specs.inner.Forms as inner_forms;
 ghost use Rattle.rtcm_msg.specs.Forms.{lock_codes, satellite_data, satellite_number, cell_data, cell_number};
 ghost use Rattle.rtcm_msg.specs.Forms.{IsMsm, IsSatelliteData, IsCellData};
 ghost use Rattle.rtcm_msg.specs.Numbers.{message_number};
-ghost use Rattle.rtcm_msg.specs.Packed.{total_width};
 ghost use Rattle.rtcm_msg.specs.Entries.{IsEntry, entries, entry_in};
 ghost use Rattle.rtcm_msg.specs.Encoding.{IsMessage};
 ghost use Rattle.rtcm_msg.specs.Decoding as decoding;

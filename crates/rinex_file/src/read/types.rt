@@ -1,5 +1,5 @@
 //! The observation types in a header, read back.
-ghost use Rattle.std.specs.Prelude.{◌≡◌, ◌≤◌, ◌<◌, ◌+◌, [], ◌==◌, ℕ, List, take, length, min, true, false, IfSome};
+ghost use Rattle.std.specs.Prelude.{◌≡◌, ◌≤◌, ◌<◌, ◌+◌, [], ◌==◌, ℕ, List, take, length, min, IfSome};
 ghost use Rattle.std.specs.Prelude.{OnOk, Err, Some};
 ghost use Rattle.gnss_system.specs.Signals.{SignalAt, IsSignal, table};
 ghost use Rattle.gnss_obs.specs.SignalLists.{indices};
