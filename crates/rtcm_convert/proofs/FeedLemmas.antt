@@ -1,5 +1,5 @@
 -- A piece that a converter accepts, and the end of its stream.
-use Rattle.rtcm_convert.proofs.Names.{Err, FailsWithReader, FailsWithWriter, HasFailed, IsErrOf, longest_frame, common_steps, fault_of_none, Fault, ap, FinishesEmptyNow, sym, ◌≡◌, ◌≢◌, ℕ, ◌<◌, ◌++◌, List, length, Bool, true, false, subst, ◌∙◌, [], Option, arith, refl, Device, HasExaminedSome, Passes, Breaks, PassesToLimit, AtFault, up_to_limit, FramerValue, StreamFault, Conversion, kept_of, KeepsNow, IsGoing, IsFit, HasConverted, HasFinished, TakesPiece, CutsAtLimit, WritesPrefixOfAdded, FinishesNow, SetupValue, IsKeptAtEnd, IsWithinBounds, skipped_before, frames_of, known_place, report_with, Report, FiledGrows, Files, BreaksFiling, EndsBytes, AppendsDecided, FileWriter}
+use Rattle.rtcm_convert.proofs.Names.{Err, FailsWithReader, FailsWithWriter, HasFailed, IsErrOf, longest_frame, common_steps, fault_of_none, Fault, ap, FinishesEmptyNow, sym, ◌≡◌, ◌≢◌, ℕ, ◌<◌, ◌++◌, List, length, Bool, true, false, subst, ◌∙◌, Option, arith, refl, Device, HasExaminedSome, Passes, Breaks, PassesToLimit, AtFault, up_to_limit, FramerValue, StreamFault, Conversion, kept_of, KeepsNow, IsGoing, IsFit, HasConverted, HasFinished, ForFinished, TakesPiece, CutsAtLimit, WritesPrefixOfAdded, FinishesNow, SetupValue, IsKeptAtEnd, IsWithinBounds, skipped_before, frames_of, known_place, report_with, Report, FiledGrows, Files, BreaksFiling, EndsBytes, AppendsDecided, FileWriter}
 use Rattle.rtcm_convert.specs.declared.fault.Fault.TheVariants as faults
 use Rattle.rtcm_convert.specs.Faults.{stream_fault}
 use Rattle.rtcm_scan.specs.inner.Passing.{CountsReads}
@@ -27,7 +27,7 @@ abbrev pub with_flags : Bool → Bool → FramerValue → FileWriter → Convers
 with_flags failed over v w = record { scan = v; file_writer = w; has_failed = failed; has_ended = over }
 
 module _ {W : Type 0} {failed over : Bool} {v v' : FramerValue} {w w' : FileWriter} {o o' : Device W} {c : W → Option (List ℕ)} (piece : List ℕ) where
-  pub fed_whole : KeepsNow (with_flags failed over v' w') → v.has_ended ≡ false → v'.has_ended ≡ false → Passes (Files c) v w o v' w' o' piece → TakesPiece (with_flags failed over v w) (with_flags failed over v' w') (c o.inner) (c o'.inner) piece
+  pub fed_whole : KeepsNow (with_flags failed over v' w') → v.has_ended ≡ false → v'.has_ended ≡ false → Passes (Files c) v w o v' w' o' piece → TakesPiece (with_flags failed over v w) (with_flags failed over v' w') piece (c o.inner) (c o'.inner)
   fed_whole keeps before after k s bytes h =
       let p = piece_whole c piece before after k s bytes h.drained in
       let now : HasConverted (with_flags failed over v' w') s (bytes ++ piece) = record { going = record { fine = h.going.fine; more = h.going.more }; drained = p.0 } in
@@ -48,7 +48,7 @@ module _ {W : Type 0} {failed over : Bool} {v v' : FramerValue} {w w' : FileWrit
     examined = some fit.examined;
   }
 
-  pub fed_long : v.has_ended ≡ false → v'.has_ended ≡ false → PassesToLimit (Files c) v w o v' w' o' piece → CutsAtLimit (with_flags failed over v w) (with_flags true over v' w') (c o.inner) (c o'.inner) piece
+  pub fed_long : v.has_ended ≡ false → v'.has_ended ≡ false → PassesToLimit (Files c) v w o v' w' o' piece → CutsAtLimit (with_flags failed over v w) (with_flags true over v' w') piece (c o.inner) (c o'.inner)
   fed_long before after k = record {
     adds = λ s bytes h. (subst (λ (l : List ℕ). AppendsDecided (c o.inner) (c o'.inner) s bytes l) (to_limit v bytes piece h.drained.scan.framer.history.taken h.drained.scan.framer.within)
         (piece_whole c (up_to_limit v piece) before after k.passes s bytes h.drained).1);
@@ -57,7 +57,7 @@ module _ {W : Type 0} {failed over : Bool} {v v' : FramerValue} {w w' : FileWrit
   }
 
 pub fed_part : {W : Type 0} {failed over : Bool} {v : FramerValue} {w w' : FileWriter} {o o' : Device W} {c : W → Option (List ℕ)} (piece : List ℕ) → FiledGrows → v.has_ended ≡ false → Breaks (Files c) (BreaksFiling c) v w o w' o' piece
-    → WritesPrefixOfAdded (with_flags failed over v w) (c o.inner) (c o'.inner) piece
+    → WritesPrefixOfAdded (with_flags failed over v w) piece (c o.inner) (c o'.inner)
 fed_part {c = c} piece grows before k s bytes h = piece_part c grows piece before k s bytes h.drained
 
 some : (n m : ℕ) → n ≡ m → (n ≡ 0 → ⊥) → 0 < m
@@ -65,19 +65,19 @@ some n m e h = grind (arith, common_steps)
 
 -- what is held and was examined after the end
 abbrev pub KeepsAtEnd : Conversion → Type 0
-KeepsAtEnd x = (s : SetupValue) (b : List ℕ) → HasFinished x s b → IsKeptAtEnd s b (kept_of x)
+KeepsAtEnd x = ForFinished x (λ s b. IsKeptAtEnd s b (kept_of x))
 
 same_report : {m n k l : ℕ} {t u : Report} {d e : ℕ} → m ≡ n → k ≡ l → t ≡ u → d ≡ e → report_with m k t d ≡ report_with n l u e
 same_report p q r s = rw (p, q, r, s) refl
 
-module _ {failed over : Bool} {v v' : FramerValue} {w w' : FileWriter} {a b : Option (List ℕ)} {n : List ℕ} (ends : EndsBytes v w v' w' a b)
-    (keeps : KeepsAtEnd (with_flags failed true v' w')) (within : IsWithinBounds v'.taken (kept_of (with_flags failed true v' w'))) (empty : n ≡ []) where
+module _ {failed over : Bool} {v v' : FramerValue} {w w' : FileWriter} {a b : Option (List ℕ)} (ends : EndsBytes v w v' w' a b)
+    (keeps : KeepsAtEnd (with_flags failed true v' w')) (within : IsWithinBounds v'.taken (kept_of (with_flags failed true v' w'))) where
   finished : (s : SetupValue) (bytes : List ℕ) → HasConverted (with_flags failed over v w) s bytes → HasFinished (with_flags failed true v' w') s bytes
   finished s bytes h =
       let p = ends s bytes h.drained in
       record { ended = p.over; taken = p.taken; within = p.within; drained = p.drained; gathered = p.gathered }
 
-  pub finishes_empty : {fault : Fault} → (fault ≡ fault_of_none w'.gatherer.counts) × (w'.epochs ≡ 0) → FinishesEmptyNow (with_flags failed over v w) (with_flags failed true v' w') n a b fault
+  pub finishes_empty : {fault : Fault} → (fault ≡ fault_of_none w'.gatherer.counts) × (w'.epochs ≡ 0) → FinishesEmptyNow (with_flags failed over v w) (with_flags failed true v' w') fault a b
   finishes_empty none s bytes h =
       let p = ends s bytes h.drained in
       let f = finished s bytes h in
@@ -85,20 +85,18 @@ module _ {failed over : Bool} {v v' : FramerValue} {w w' : FileWriter} {a b : Op
         none = sym p.epochs ∙ none.1;
         fault_is = none.0 ∙ ap fault_of_none (p.counts (sym p.epochs ∙ none.1));
         out = p.out;
-        sent = empty;
         finished = f;
         kept = keeps s bytes f;
         bounds = subst (λ (k : ℕ). IsWithinBounds k (kept_of (with_flags failed true v' w'))) p.taken within;
       }
 
-  pub finishes : {report : Report} → (w'.epochs ≢ 0) × (report ≡ report_with v'.taken v'.skipped w'.tally w'.epochs) → FinishesNow (with_flags failed over v w) (with_flags failed true v' w') n a b report
+  pub finishes : {report : Report} → (w'.epochs ≢ 0) × (report ≡ report_with v'.taken v'.skipped w'.tally w'.epochs) → FinishesNow (with_flags failed over v w) (with_flags failed true v' w') report a b
   finishes given s bytes h =
       let p = ends s bytes h.drained in
       let f = finished s bytes h in
       let skipped : v'.skipped ≡ skipped_before (length bytes) (frames_of bytes) = subst (λ (e : Bool). v'.skipped ≡ skipped_before (known_place e bytes) (frames_of bytes)) p.over p.drained.skipped in
       record {
         out = p.out;
-        sent = empty;
         some = some _ _ p.epochs given.0;
         report_is = given.1 ∙ same_report p.taken skipped p.tally p.epochs;
         finished = f;

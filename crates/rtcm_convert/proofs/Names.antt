@@ -32,7 +32,7 @@ pub use Rattle.rtcm_bits.proofs.SmallLaws.{length-filter-le, length-filter_map-l
 pub use Rattle.rtcm_bits.specs.FrameOf.{longest_frame}
 pub use Rattle.rtcm_bits.specs.Prefix.{IsPrefix}
 pub use Rattle.rtcm_convert.specs.Broken.{FailedWriting, FailedWritingAtEnd, IsBroken, joined_pieces}
-pub use Rattle.rtcm_convert.specs.Conversion.{Completed, CompletedEmpty, CompletesEmptyFile, CompletesFile, Conversion, CutsAtLimit, FailsAtEnd, FailsAtPiece, FailsFeeding, FailsFinishing, HasConverted, HasFinished, IsGoing, LeftBy, RanToFault, RanToLimit, WritesAdded, kept_of, refusal}
+pub use Rattle.rtcm_convert.specs.Conversion.{Completed, CompletedEmpty, CompletesEmptyFile, CompletesFile, Conversion, CutsAtLimit, FailsAtEnd, FailsAtPiece, FailsFeeding, FailsFinishing, HasConverted, ForFinished, HasFinished, IsGoing, LeftBy, RanToFault, RanToLimit, WritesAdded, kept_of, refusal}
 unfoldable pub use Rattle.rtcm_convert.specs.Converted.{text_of_epochs}
 pub use Rattle.rtcm_convert.specs.Converted.{SetupValue, epoch_counts, epochs_in, file, message_of, messages_of, so_far, text_with, written_epochs}
 pub use Rattle.rtcm_convert.specs.Faults.{FailsWithReader, FailsWithWriter, IsFinishFault, IsOfNone, IsPiecesFault, IsRunFault, IsSentAfter, IsSetupFault, fault_of_none}

@@ -20,7 +20,7 @@ pieces_split bytes pieces i = ap (flat_map bytes) (sym (take-append-drop i piece
 abbrev pub HasTaken : Conversion → Conversion → Option (List ℕ) → Option (List ℕ) → List ℕ → Type 0
 HasTaken v w a b front = (s : SetupValue) (bytes : List ℕ) → HasConverted v s bytes → HasConverted w s (bytes ++ front) × AppendsDecided a b s bytes (bytes ++ front)
 
-pub taken_then : {v w x : Conversion} {a b c : Option (List ℕ)} (front piece : List ℕ) {all : List ℕ} → front ++ piece ≡ all → HasTaken v w a b front → TakesPiece w x b c piece → HasTaken v x a c all
+pub taken_then : {v w x : Conversion} {a b c : Option (List ℕ)} (front piece : List ℕ) {all : List ℕ} → front ++ piece ≡ all → HasTaken v w a b front → TakesPiece w x piece b c → HasTaken v x a c all
 taken_then {x} {a} {c} front piece {all} more f g s bytes y = grind (arith, append_assoc bytes front piece, goes_on-trans (f s bytes y).1 (g s (bytes ++ front) (f s bytes y).0).out)
 
 pub longer_by : (u : ℕ) {v w : ℕ} (front piece : List ℕ) {all : List ℕ} → front ++ piece ≡ all → v ≡ u + length front → w ≡ v + length piece → w ≡ u + length all
@@ -29,13 +29,13 @@ longer_by u front piece {all} more d e = let l : length all ≡ length front + l
 module _ {v w : Conversion} {a b : Option (List ℕ)} (front : List ℕ) (came : HasTaken v w a b front) where
   -- ---- the end
 
-  pub pieces_whole : {x : Conversion} {c : Option (List ℕ)} {n all : List ℕ} {report : Report} → front ≡ all → FinishesNow w x n b c report → CompletesFile v x n a c report all
-  pieces_whole {x} {c} {n} {report = report} e f = subst (CompletesFile v x n a c report) e (λ s bytes y. (let i = came s bytes y in completed_after i.1 (f s (bytes ++ front) i.0)))
+  pub pieces_whole : {x : Conversion} {c : Option (List ℕ)} {all : List ℕ} {report : Report} → front ≡ all → FinishesNow w x report b c → CompletesFile v x report all a c
+  pieces_whole {x} {c} {report = report} e f = subst (λ (l : List ℕ). CompletesFile v x report l a c) e (λ s bytes y. (let i = came s bytes y in completed_after i.1 (f s (bytes ++ front) i.0)))
 
-  pub pieces_empty : {x : Conversion} {c : Option (List ℕ)} {n all : List ℕ} {fault : Fault} → front ≡ all → FinishesEmptyNow w x n b c fault → CompletesEmptyFile v x n a c fault all
-  pieces_empty {x} {c} {n} {fault = fault} e f = subst (CompletesEmptyFile v x n a c fault) e (λ s bytes y. (let i = came s bytes y in empty_after i.1 (f s (bytes ++ front) i.0)))
+  pub pieces_empty : {x : Conversion} {c : Option (List ℕ)} {all : List ℕ} {fault : Fault} → front ≡ all → FinishesEmptyNow w x fault b c → CompletesEmptyFile v x fault all a c
+  pieces_empty {x} {c} {fault = fault} e f = subst (λ (l : List ℕ). CompletesEmptyFile v x fault l a c) e (λ s bytes y. (let i = came s bytes y in empty_after i.1 (f s (bytes ++ front) i.0)))
 
-  pub pieces_broke_at_end : {Z : Type 0} {c : Option (List ℕ)} (pieces : List (Vec ℕ Z)) → front ≡ joined_pieces pieces → StopsAtEnd w b c → StopsInPieces v a c pieces
+  pub pieces_broke_at_end : {Z : Type 0} {c : Option (List ℕ)} (pieces : List (Vec ℕ Z)) → front ≡ joined_pieces pieces → StopsAtEnd w b c → StopsInPieces v pieces a c
   pieces_broke_at_end {c = c} pieces e stop = inr (λ s bytes y.
       let i = came s bytes y in
       let at : bytes ++ front ≡ bytes ++ joined_pieces pieces = ap (λ l. bytes ++ l) e in
@@ -44,7 +44,7 @@ module _ {v w : Conversion} {a b : Option (List ℕ)} (front : List ℕ) (came :
   -- ---- a piece
 
   -- a piece that goes over the limit: the bytes written are those of all pieces up to the limit
-  pub pieces_long : {x : Conversion} {c : Option (List ℕ)} {all : List ℕ} (piece rest : List ℕ) → w.scan.limit ≡ v.scan.limit → w.scan.taken ≡ v.scan.taken + length front → all ≡ (front ++ piece) ++ rest → CutsAtLimit w x b c piece → CutsAtLimit v x a c all
+  pub pieces_long : {x : Conversion} {c : Option (List ℕ)} {all : List ℕ} (piece rest : List ℕ) → w.scan.limit ≡ v.scan.limit → w.scan.taken ≡ v.scan.taken + length front → all ≡ (front ++ piece) ++ rest → CutsAtLimit w x piece b c → CutsAtLimit v x all a c
   pieces_long {c = c} {all} piece rest same taken e q = record {
     adds = λ s bytes y.
         (let i = came s bytes y in
@@ -72,7 +72,7 @@ pieces_rest bytes pieces i piece more = pieces_split bytes pieces (i + 1) ∙ ap
 
 -- the writer failed at a piece
 pub pieces_broke : {Z : Type 0} {v w : Conversion} {a b c : Option (List ℕ)} (pieces : List (Vec ℕ Z)) (i : ℕ) (piece : List ℕ) → HasTaken v w a b (joined_pieces (take i pieces)) → i < length pieces
-    → joined_pieces (take i pieces) ++ piece ≡ joined_pieces (take (i + 1) pieces) → WritesPrefixOfAdded w b c piece → StopsInPieces v a c pieces
+    → joined_pieces (take i pieces) ++ piece ≡ joined_pieces (take (i + 1) pieces) → WritesPrefixOfAdded w piece b c → StopsInPieces v pieces a c
 pieces_broke {b} {c} pieces i piece came less more stop = inl (
   i,
   less,

@@ -7,7 +7,7 @@ use Rattle.rtcm_convert.proofs.StreamLemmas.{passed_here, piece_whole, so_far-fr
 -- some further bytes were read and accepted, and what they add was written
 abbrev pub TakesFromReader : (v w : Conversion) (r r' a b : Option (List ℕ)) → Type 0
 TakesFromReader v w r r' a b =
-    (front : List ℕ) × Consumes r r' front × (w.scan.taken ≡ v.scan.taken + length front) × TakesPiece v w a b front
+    (front : List ℕ) × Consumes r r' front × (w.scan.taken ≡ v.scan.taken + length front) × TakesPiece v w front a b
 
 flags : (ended failed : Bool) → (if ended then Some Finished else if failed then Some Failed else None) ≡ None → (failed ≡ false) × (ended ≡ false)
 flags ended failed e = grind (arith, common_steps)
@@ -16,27 +16,27 @@ flags ended failed e = grind (arith, common_steps)
 pub going_on : {x v : Conversion} → x ≡ v → refusal v ≡ None → IsGoing x
 going_on {v = v} same e = let p = flags v.has_ended v.has_failed e in subst (λ (x : Conversion). IsGoing x) (sym same) (record { fine = p.0; more = p.1 })
 
-pub completed_after : {w : Conversion} {n : List ℕ} {a b c : Option (List ℕ)} {s : SetupValue} {x y : List ℕ} {report : Report} → AppendsDecided a b s x y → Completed w n b c s y y report → Completed w n a c s x y report
-completed_after e f = record { out = goes_on-trans e f.out; sent = f.sent; some = f.some; report_is = f.report_is; finished = f.finished; kept = f.kept; bounds = f.bounds }
+pub completed_after : {w : Conversion} {a b c : Option (List ℕ)} {s : SetupValue} {x y : List ℕ} {report : Report} → AppendsDecided a b s x y → Completed w report b c s y y → Completed w report a c s x y
+completed_after e f = record { out = goes_on-trans e f.out; some = f.some; report_is = f.report_is; finished = f.finished; kept = f.kept; bounds = f.bounds }
 
-pub empty_after : {w : Conversion} {n : List ℕ} {a b c : Option (List ℕ)} {fault : Fault} {s : SetupValue} {x y : List ℕ} → AppendsDecided a b s x y → CompletedEmpty w n b c fault s y y → CompletedEmpty w n a c fault s x y
-empty_after e f = record { none = f.none; fault_is = f.fault_is; out = goes_on-trans e f.out; sent = f.sent; finished = f.finished; kept = f.kept; bounds = f.bounds }
+pub empty_after : {w : Conversion} {a b c : Option (List ℕ)} {fault : Fault} {s : SetupValue} {x y : List ℕ} → AppendsDecided a b s x y → CompletedEmpty w fault b c s y y → CompletedEmpty w fault a c s x y
+empty_after e f = record { none = f.none; fault_is = f.fault_is; out = goes_on-trans e f.out; finished = f.finished; kept = f.kept; bounds = f.bounds }
 
-pub ran_whole : {v w x : Conversion} {n : List ℕ} {a b c : Option (List ℕ)} {report : Report} (r r' : Option (List ℕ)) → TakesFromReader v w r r' a b → IsAtEnd r' → FinishesNow w x n b c report → IfSome r (CompletesFile v x n a c report)
-ran_whole {v} {x = x} {n} {a} {c = c} {report} r r' p e f =
-    Consumes-whole r r' p.0 (CompletesFile v x n a c report) p.1 e
+pub ran_whole : {v w x : Conversion} {a b c : Option (List ℕ)} {report : Report} (r r' : Option (List ℕ)) → TakesFromReader v w r r' a b → IsAtEnd r' → FinishesNow w x report b c → IfSome r (λ rest. CompletesFile v x report rest a c)
+ran_whole {v} {x = x} {a} {c = c} {report} r r' p e f =
+    Consumes-whole r r' p.0 (λ rest. CompletesFile v x report rest a c) p.1 e
     (λ s bytes y. let i = p.3 s bytes y in completed_after i.out (f s (bytes ++ p.0) i.converted))
 
 pub run_finishing : {v w : Conversion} (x : Conversion) (r r' : Option (List ℕ)) {a b c : Option (List ℕ)} → TakesFromReader v w r r' a b → IsAtEnd r' → x.scan.taken ≡ w.scan.taken → StopsAtEnd w b c → FailsFinishing v x r r' a c
 run_finishing x r r' {b} p e same f = grind arith
 
-pub ran_empty : {v w x : Conversion} {n : List ℕ} (r r' : Option (List ℕ)) {a b c : Option (List ℕ)} {fault : Fault} → TakesFromReader v w r r' a b → IsAtEnd r' → FinishesEmptyNow w x n b c fault → IfSome r (CompletesEmptyFile v x n a c fault)
-ran_empty {v} {x = x} {n} r r' {a} {c = c} {fault} p e f =
-    Consumes-whole r r' p.0 (CompletesEmptyFile v x n a c fault) p.1 e
+pub ran_empty : {v w x : Conversion} (r r' : Option (List ℕ)) {a b c : Option (List ℕ)} {fault : Fault} → TakesFromReader v w r r' a b → IsAtEnd r' → FinishesEmptyNow w x fault b c → IfSome r (λ rest. CompletesEmptyFile v x fault rest a c)
+ran_empty {v} {x = x} r r' {a} {c = c} {fault} p e f =
+    Consumes-whole r r' p.0 (λ rest. CompletesEmptyFile v x fault rest a c) p.1 e
     (λ s bytes y. let i = p.3 s bytes y in empty_after i.out (f s (bytes ++ p.0) i.converted))
 
 -- the bytes read go over the limit
-pub ran_long : {v w : Conversion} (r r' : Option (List ℕ)) {a b : Option (List ℕ)} {front : List ℕ} → Consumes r r' front → CutsAtLimit v w a b front → RanToLimit v w r r' a b
+pub ran_long : {v w : Conversion} (r r' : Option (List ℕ)) {a b : Option (List ℕ)} {front : List ℕ} → Consumes r r' front → CutsAtLimit v w front a b → RanToLimit v w r r' a b
 ran_long {v} r r' {front} e k = grind (arith, common_steps)
 
 -- the known frames before the end are the decided ones

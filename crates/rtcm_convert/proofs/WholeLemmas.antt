@@ -19,20 +19,20 @@ same_limit {n = n} new le = subst (λ (k : ℕ). n ≤ k) (new.same ∙ new.limi
 abbrev pub IsValued : Setup → Type 0
 IsValued x = (b : List ℕ) → 0 < epochs_in (setup_value x) (frames_of b) → HasValue (file (setup_value x) (frames_of b))
 
-made : {v w : Conversion} {n : List ℕ} {x : Setup} {a b : Option (List ℕ)} {bytes : List ℕ} {report : Report} → BeganNew v w x → IsValued x → Completed w n a b (setup_value x) [] bytes report → IsMade x a b bytes
+made : {v w : Conversion} {x : Setup} {a b : Option (List ℕ)} {bytes : List ℕ} {report : Report} → BeganNew v w x → IsValued x → Completed w report a b (setup_value x) [] bytes → IsMade x a b bytes
 made {x = x} {bytes = bytes} new valued p = grind (arith, same_limit, from_nothing)
 
-made_empty : {v w : Conversion} {n : List ℕ} {x : Setup} {a b : Option (List ℕ)} {fault : Fault} {bytes : List ℕ} → BeganNew v w x → CompletedEmpty w n a b fault (setup_value x) [] bytes → IsMadeEmpty x fault a b bytes
+made_empty : {v w : Conversion} {x : Setup} {a b : Option (List ℕ)} {fault : Fault} {bytes : List ℕ} → BeganNew v w x → CompletedEmpty w fault a b (setup_value x) [] bytes → IsMadeEmpty x fault a b bytes
 made_empty {x = x} new p = grind (arith, same_limit, from_nothing)
 
-pub run_made : {E : Type 0} {v w : Conversion} {x : Setup} (n : List ℕ) (r a b : Option (List ℕ)) (result : Result Report E) → BeganNew v w x → IsValued x
-    → IfOk result (λ report. IfSome r (CompletesFile v w n a b report)) → IfOk result (λ report. IfSome r (IsMadeWith x report a b))
-run_made {x = x} n r a b result h' h'' h = grind (arith, common_steps, made)
+pub run_made : {E : Type 0} {v w : Conversion} {x : Setup} (r a b : Option (List ℕ)) (result : Result Report E) → BeganNew v w x → IsValued x
+    → IfOk result (λ report. IfSome r (λ rest. CompletesFile v w report rest a b)) → IfOk result (λ report. IfSome r (IsMadeWith x report a b))
+run_made {x = x} r a b result h' h'' h = grind (arith, common_steps, made)
 
-pub run_empty : {v w : Conversion} {x : Setup} (fault : Fault) (n : List ℕ) (r a b : Option (List ℕ)) → BeganNew v w x → IfSome r (CompletesEmptyFile v w n a b fault) → IfSome r (IsMadeEmpty x fault a b)
-run_empty {x = x} fault n r a b new h = IfSome_then r h (λ l f. made_empty new (f (setup_value x) [] new.history))
+pub run_empty : {v w : Conversion} {x : Setup} (fault : Fault) (r a b : Option (List ℕ)) → BeganNew v w x → IfSome r (λ rest. CompletesEmptyFile v w fault rest a b) → IfSome r (IsMadeEmpty x fault a b)
+run_empty {x = x} fault r a b new h = IfSome_then r h (λ l f. made_empty new (f (setup_value x) [] new.history))
 
-pub run_read : {v w : Conversion} {x : Setup} {a b : Option (List ℕ)} (r r' : Option (List ℕ)) → BeganNew v w x → ((front : List ℕ) × Consumes r r' front × (w.scan.taken ≡ v.scan.taken + length front) × WritesAdded v a b front)
+pub run_read : {v w : Conversion} {x : Setup} {a b : Option (List ℕ)} (r r' : Option (List ℕ)) → BeganNew v w x → ((front : List ℕ) × Consumes r r' front × (w.scan.taken ≡ v.scan.taken + length front) × WritesAdded v front a b)
     → (front : List ℕ) × Consumes r r' front × Appends a b (so_far (setup_value x) (decided_frames front))
 run_read {x = x} r r' new p = (p.0, p.1, from_nothing new.nothing (setup_value x) (p.3 (setup_value x) [] new.history))
 

@@ -1,6 +1,6 @@
 -- The state of a converter that contracts cite, and the bytes that it may have accepted.
-use Rattle.std.specs.Prelude.{◌≡◌, ◌⊎◌, ℕ, ◌+◌, ◌-◌, ◌<◌, ◌≤◌, List, [], ◌++◌, take, length}
-use Rattle.std.specs.Prelude.{Bool, true, false, Option, Some, None, IfSome, if◌then◌else◌, Result, IfErr}
+use Rattle.std.specs.Prelude.{◌≡◌, ◌⊎◌, ℕ, ◌+◌, ◌-◌, ◌<◌, ◌≤◌, List, ◌++◌, take, length}
+use Rattle.std.specs.Prelude.{Bool, true, false, Option, Some, None, IfSome, if◌then◌else◌, Result, Err, IfErr}
 use Rattle.std.specs.Io.KnownBytes.{Consumes, IsAtEnd}
 use Rattle.rtcm_bits.specs.FrameOf.{longest_frame}
 use Rattle.rtcm_scan.specs.Frames.{frames_of}
@@ -40,6 +40,10 @@ pub record IsGoing (v : Conversion) : Type 0 where
 abbrev pub refusal : Conversion → Option Fault
 refusal v = (if v.has_ended then Some Finished else if v.has_failed then Some Failed else None)
 
+-- a call returns its refusal, if it has one, and leaves the converter and its devices as they are
+abbrev pub IsRefused : {A : Type 0} → (v w : Conversion) → (devices : Type 0) → Result A Fault → Type 0
+IsRefused v w devices result = IfSome (refusal v) (λ fault. (result ≡ Err fault) × (w ≡ v) × devices)
+
 -- A converter made with these settings accepted these bytes: it holds the undecided ones, examined the candidates up to
 -- the first undecided offset, and wrote the epochs that the decided frames close.
 pub record HasConverted (v : Conversion) (s : SetupValue) (b : List ℕ) : Type 0 where
@@ -59,6 +63,10 @@ pub record HasFinished (v : Conversion) (s : SetupValue) (b : List ℕ) : Type 0
 abbrev pub ForAccepted : Conversion → (SetupValue → List ℕ → Type 0) → Type 0
 ForAccepted v P = (s : SetupValue) (bytes : List ℕ) → HasConverted v s bytes → P s bytes
 
+-- this holds for all bytes of which the ended stream may have been
+abbrev pub ForFinished : Conversion → (SetupValue → List ℕ → Type 0) → Type 0
+ForFinished v P = (s : SetupValue) (bytes : List ℕ) → HasFinished v s bytes → P s bytes
+
 -- what a converter holds and has examined
 abbrev pub kept_of : Conversion → Kept
 kept_of v = record {
@@ -70,29 +78,29 @@ kept_of v = record {
 }
 
 -- it accepted these bytes up to its limit, and what they add was written
-abbrev pub TakesToLimit : Conversion → (a b : Option (List ℕ)) → List ℕ → Type 0
-TakesToLimit v a b piece = ForAccepted v (λ s bytes. AppendsDecided a b s bytes (take v.scan.limit (bytes ++ piece)))
+abbrev pub TakesToLimit : Conversion → List ℕ → (a b : Option (List ℕ)) → Type 0
+TakesToLimit v piece a b = ForAccepted v (λ s bytes. AppendsDecided a b s bytes (take v.scan.limit (bytes ++ piece)))
 
 -- these bytes go over the limit; they were accepted up to it, and what they add was written
-pub record CutsAtLimit (v w : Conversion) (a b : Option (List ℕ)) (piece : List ℕ) : Type 0 where
-  pub adds : TakesToLimit v a b piece
+pub record CutsAtLimit (v w : Conversion) (piece : List ℕ) (a b : Option (List ℕ)) : Type 0 where
+  pub adds : TakesToLimit v piece a b
   pub full : w.scan.taken ≡ v.scan.limit
   pub over : v.scan.limit < v.scan.taken + length piece
 
 -- what these bytes add was written
-abbrev pub WritesAdded : Conversion → (a b : Option (List ℕ)) → List ℕ → Type 0
-WritesAdded v a b front = ForAccepted v (λ s bytes. AppendsDecided a b s bytes (bytes ++ front))
+abbrev pub WritesAdded : Conversion → List ℕ → (a b : Option (List ℕ)) → Type 0
+WritesAdded v front a b = ForAccepted v (λ s bytes. AppendsDecided a b s bytes (bytes ++ front))
 
 -- some further bytes were read and accepted, and what they add was written; then the reader failed
 abbrev pub RanToFault : (v w : Conversion) (r r' a b : Option (List ℕ)) → Type 0
 RanToFault v w r r' a b =
-    (front : List ℕ) × Consumes r r' front × (w.scan.taken ≡ v.scan.taken + length front) × WritesAdded v a b front
+    (front : List ℕ) × Consumes r r' front × (w.scan.taken ≡ v.scan.taken + length front) × WritesAdded v front a b
 
 -- the stream is longer than the limit; some further bytes were read, and accepted up to it; what these add was written
 pub record RanToLimit (v w : Conversion) (r r' a b : Option (List ℕ)) : Type 0 where
   pub front : List ℕ
   pub consumes : Consumes r r' front
-  pub adds : TakesToLimit v a b front
+  pub adds : TakesToLimit v front a b
   pub full : w.scan.taken ≡ v.scan.limit
   pub over : IfSome r (λ rest. ForAccepted v (λ s bytes. v.scan.limit < length (bytes ++ rest)))
 
@@ -129,48 +137,42 @@ FailsFinishing v w r r' a b =
 abbrev pub StopsRunning : (v w : Conversion) (r r' a b : Option (List ℕ)) → Type 0
 StopsRunning v w r r' a b = FailsFeeding v w r r' a b ⊎ FailsFinishing v w r r' a b
 
--- The rest of the file of all these bytes, which has an epoch, was written, and none of it waits in the writer;
--- `report` is its report; all bytes were decided and examined; and what the converter holds and has examined are the
--- values for these bytes, within the bounds.
-pub record Completed (w : Conversion) (waiting : List ℕ) (a b : Option (List ℕ)) (s : SetupValue) (bytes all : List ℕ)
-    (report : Report) : Type 0 where
+-- The rest of the file of all these bytes, which has an epoch, was written; `report` is its report; all bytes were
+-- decided and examined; and what the converter holds and has examined are the values for these bytes, within the bounds.
+pub record Completed (w : Conversion) (report : Report) (a b : Option (List ℕ)) (s : SetupValue) (bytes all : List ℕ)
+    : Type 0 where
   pub out : AppendsRest a b s bytes all
-  pub sent : waiting ≡ []
   pub some : 0 < epochs_in s (frames_of all)
   pub report_is : report ≡ report_of s all
   pub finished : HasFinished w s all
   pub kept : IsKeptAtEnd s all (kept_of w)
   pub bounds : IsWithinBounds (length all) (kept_of w)
 
--- The file of all these bytes has no epoch and is empty, `fault` is its fault, and nothing waits in the writer; all bytes
--- were decided and examined.
-pub record CompletedEmpty (w : Conversion) (waiting : List ℕ) (a b : Option (List ℕ)) (fault : Fault) (s : SetupValue)
-    (bytes all : List ℕ) : Type 0 where
+-- The file of all these bytes has no epoch and is empty, and `fault` is its fault; all bytes were decided and examined.
+pub record CompletedEmpty (w : Conversion) (fault : Fault) (a b : Option (List ℕ)) (s : SetupValue) (bytes all : List ℕ)
+    : Type 0 where
   pub none : epochs_in s (frames_of all) ≡ 0
   pub fault_is : fault ≡ fault_of_none (epoch_counts s (frames_of all))
   pub out : AppendsRest a b s bytes all
-  pub sent : waiting ≡ []
   pub finished : HasFinished w s all
   pub kept : IsKeptAtEnd s all (kept_of w)
   pub bounds : IsWithinBounds (length all) (kept_of w)
 
 -- with these further bytes, the file was completed
-abbrev pub CompletesFile : (v w : Conversion) → List ℕ → (a b : Option (List ℕ)) → Report → List ℕ → Type 0
-CompletesFile v w waiting a b report rest =
-    ForAccepted v (λ s bytes. Completed w waiting a b s bytes (bytes ++ rest) report)
+abbrev pub CompletesFile : (v w : Conversion) → Report → List ℕ → (a b : Option (List ℕ)) → Type 0
+CompletesFile v w report rest a b = ForAccepted v (λ s bytes. Completed w report a b s bytes (bytes ++ rest))
 
 -- with these further bytes, the file was completed and is empty
-abbrev pub CompletesEmptyFile : (v w : Conversion) → List ℕ → (a b : Option (List ℕ)) → Fault → List ℕ → Type 0
-CompletesEmptyFile v w waiting a b fault rest =
-    ForAccepted v (λ s bytes. CompletedEmpty w waiting a b fault s bytes (bytes ++ rest))
+abbrev pub CompletesEmptyFile : (v w : Conversion) → Fault → List ℕ → (a b : Option (List ℕ)) → Type 0
+CompletesEmptyFile v w fault rest a b = ForAccepted v (λ s bytes. CompletedEmpty w fault a b s bytes (bytes ++ rest))
 
 -- with the rest of the stream, the file was completed
-abbrev pub CompletesFileOfAll : (v w : Conversion) → List ℕ → Report → (r r' a b : Option (List ℕ)) → Type 0
-CompletesFileOfAll v w waiting report r r' a b = IfSome r (CompletesFile v w waiting a b report)
+abbrev pub CompletesFileOfAll : (v w : Conversion) → Report → (r r' a b : Option (List ℕ)) → Type 0
+CompletesFileOfAll v w report r r' a b = IfSome r (λ rest. CompletesFile v w report rest a b)
 
 -- with the rest of the stream, the file was completed and is empty
-abbrev pub CompletesEmptyFileOfAll : (v w : Conversion) → List ℕ → Fault → (r r' a b : Option (List ℕ)) → Type 0
-CompletesEmptyFileOfAll v w waiting fault r r' a b = IfSome r (CompletesEmptyFile v w waiting a b fault)
+abbrev pub CompletesEmptyFileOfAll : (v w : Conversion) → Fault → (r r' a b : Option (List ℕ)) → Type 0
+CompletesEmptyFileOfAll v w fault r r' a b = IfSome r (λ rest. CompletesEmptyFile v w fault rest a b)
 
 -- the state of a converter after a fault of a call, if it had neither failed nor ended before: finished after
 -- `NoEpoch` and `NoneChosen`, else failed

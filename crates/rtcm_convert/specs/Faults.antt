@@ -1,5 +1,5 @@
 -- The state of the devices that a call reads and writes, by its result.
-use Rattle.std.specs.Prelude.{◌≡◌, ◌≤◌, ◌⊎◌, ◌==◌, if◌then◌else◌, ℕ, max, ⊤, List, [], Result, Ok, Err, OnOk, IfErr}
+use Rattle.std.specs.Prelude.{◌≡◌, ◌≤◌, ◌⊎◌, ◌==◌, if◌then◌else◌, ℕ, max, ⊤, List, [], Result, Ok, Err, OnOk, IfErr, IsErrOf}
 use Rattle.devices.specs.Device.{Device}
 use Rattle.devices.specs.Devices.{Culprit, TheReader, TheWriter, NoDevice, ReaderFailures, WriterFailures}
 use Rattle.rtcm_bits.specs.FrameOf.{longest_frame}
@@ -63,6 +63,10 @@ abbrev pub IsOfNone : Fault → Type 0
 IsOfNone NoEpoch = ⊤
 IsOfNone (NoneChosen counts) = ⊤
 IsOfNone other = ⊥
+
+-- P holds for the fault of a call that returns one of a file without an epoch
+abbrev pub IfEmpty : {A : Type 0} → Result A Fault → (Fault → Type 0) → Type 0
+IfEmpty result P = (fault : Fault) → IsOfNone fault → IsErrOf result fault → P fault
 
 -- the faults of a setup
 abbrev pub IsSetupFault : Fault → Type 0

@@ -1,6 +1,6 @@
 //! The converter: it accepts a stream piece by piece, and writes its observation file.
-ghost use Rattle.std.specs.Prelude.{◌≡◌, ◌≢◌, ◌<◌, ◌≤◌, ◌+◌, ◌*◌, ◌↔◌, [], List, ℕ, true, false, length, drop};
-ghost use Rattle.std.specs.Prelude.{Err, OnOk, IfOk, IfErr, IfSome, IsErrOf, None, Some};
+ghost use Rattle.std.specs.Prelude.{◌≡◌, ◌≢◌, ◌<◌, ◌≤◌, ◌+◌, ◌*◌, ◌↔◌, [], true, false, length, drop};
+ghost use Rattle.std.specs.Prelude.{Err, OnOk, IfOk, IfErr, IsErrOf, None, Some};
 ghost use Rattle.gnss_obs.specs.GatheredEpochs.{AreStationValues};
 ghost use Rattle.rtcm_scan.specs.Frames.{frames_of};
 ghost use Rattle.rtcm_scan.specs.Decided.{decided, decided_frames, most_undecided};
@@ -9,18 +9,17 @@ ghost use Rattle.rtcm_scan.specs.Looks.{examined, examined_now, most, most_looks
 ghost use Rattle.gnss_obs.specs.Values.{cells_of, most_cells};
 ghost use Rattle.obs_epoch.specs.GathererAfter.{most_locks, recorded};
 ghost use Rattle.rtcm_convert.specs.Kept.{cells_kept, locks_kept, locks_in_all, IsWithinBounds, IsKeptNow, IsKeptAtEnd};
-ghost use Rattle.devices.specs.Device.{IsUntouched, Moves};
+ghost use Rattle.devices.specs.Device.{IsUntouched, Moves, WritesBytes};
 ghost use Rattle.rtcm_convert.specs.Outcomes.{report_with};
-ghost use Rattle.rtcm_convert.specs.Faults.{FailsWithReader, FailsWithWriter, IsOfNone, IsSentAfter, IsSetupFault};
+ghost use Rattle.rtcm_convert.specs.Faults.{FailsWithReader, FailsWithWriter, IfEmpty, IsSentAfter, IsSetupFault};
 ghost use Rattle.rtcm_convert.specs.Faults.{fault_of_none, IsFeedFault, IsFinishFault, IsPiecesFault, IsRunFault};
 ghost use Rattle.rtcm_convert.specs.SetupValues.{setup_value, IsBad};
-ghost use Rattle.rtcm_convert.specs.Converted.{SetupValue};
-ghost use Rattle.rtcm_convert.specs.Conversion.{kept_of, HasConverted, HasFinished, IsGoing, CutsAtLimit, IsLeft};
-ghost use Rattle.rtcm_convert.specs.Conversion.{refusal, CompletesFile, CompletesEmptyFile, CompletesFileOfAll};
-ghost use Rattle.rtcm_convert.specs.Conversion.{CompletesEmptyFileOfAll, RanToFault, RanToLimit, StopsRunning};
+ghost use Rattle.rtcm_convert.specs.Conversion.{kept_of, HasConverted, ForAccepted, ForFinished, IsGoing, CutsAtLimit};
+ghost use Rattle.rtcm_convert.specs.Conversion.{refusal, IsLeft, IsRefused, CompletesFile, CompletesEmptyFile};
+ghost use Rattle.rtcm_convert.specs.Conversion.{CompletesFileOfAll, CompletesEmptyFileOfAll};
+ghost use Rattle.rtcm_convert.specs.Conversion.{RanToFault, RanToLimit, StopsRunning};
 ghost use Rattle.rtcm_convert.specs.inner.Conversion.{KeepsNow, GoesOnBy, TakesPiece, WritesPrefixOfAdded, StopsAtEnd};
 ghost use Rattle.rtcm_convert.specs.inner.Conversion.{FinishesNow, FinishesEmptyNow};
-ghost use Rattle.rtcm_convert.specs.inner.Steps.{WritesBytes};
 ghost use Rattle.rtcm_convert.specs.Broken.{joined_pieces};
 ghost use Rattle.rtcm_convert.specs.Pieces.{StopsInPieces};
 
@@ -123,12 +122,11 @@ impl Converter {
     /// the writer failed; and, without any effect, `Finished` if the stream was ended, and `Failed`
     /// if an earlier call failed.
     pub fn feed<W: Deliver>(&mut self, piece: &[u8], writer: &mut Counted<W>) -> Result<(), Fault>
-        ensures refused { IfSome (refusal self.old)
-            (λ fault. (result ≡ Err fault) × (self.new ≡ self.old) × (writer.new ≡ writer.old)) }
+        ensures refused { IsRefused self.old self.new (writer.new ≡ writer.old) result }
         // All bytes were accepted, what they add was written, and the converter holds and has
         // examined the values for all bytes, within the bounds.
-        ensures whole { OnOk result
-            (TakesPiece self.old self.new (W.contents writer.old.inner) (W.contents writer.new.inner) piece.now) }
+        ensures whole { OnOk result (WritesBytes W.contents writer.old writer.new
+            (TakesPiece self.old self.new piece.now)) }
         ensures going { OnOk result (GoesOnBy self.old self.new (length piece.now)) }
         // At a fault no more than this piece was accepted.
         ensures taken { (self.old.scan.taken ≤ self.new.scan.taken)
@@ -137,10 +135,10 @@ impl Converter {
         ensures keeps { OnOk result (KeepsNow self.new) }
         // A prefix of what these bytes add was written.
         ensures part { IsErrOf result Fault.Write
-            → WritesPrefixOfAdded self.old (W.contents writer.old.inner) (W.contents writer.new.inner) piece.now }
+            → WritesBytes W.contents writer.old writer.new (WritesPrefixOfAdded self.old piece.now) }
         // The bytes up to the limit were accepted, and what they add was written.
         ensures long { IsErrOf result Fault.TooLong
-            → CutsAtLimit self.old self.new (W.contents writer.old.inner) (W.contents writer.new.inner) piece.now }
+            → WritesBytes W.contents writer.old writer.new (CutsAtLimit self.old self.new piece.now) }
         // Nothing waits in the writer, unless it failed.
         ensures sent { IsSentAfter result (W.waiting writer.old.inner) (W.waiting writer.new.inner) }
         ensures device { FailsWithWriter result writer.old writer.new }
@@ -173,15 +171,13 @@ impl Converter {
     /// the writer failed; and, without any effect, `Finished` if the stream was ended before, and
     /// `Failed` if an earlier call failed.
     pub fn finish<W: Deliver>(&mut self, writer: &mut Counted<W>) -> Result<Report, Fault>
-        ensures refused { IfSome (refusal self.old)
-            (λ fault. (result ≡ Err fault) × (self.new ≡ self.old) × (writer.new ≡ writer.old)) }
+        ensures refused { IsRefused self.old self.new (writer.new ≡ writer.old) result }
         // The rest of the file was written, and that is the report.
-        ensures whole { IfOk result (FinishesNow self.old self.new (W.waiting writer.new.inner)
-            (W.contents writer.old.inner) (W.contents writer.new.inner)) }
+        ensures whole { IfOk result (λ report. WritesBytes W.contents writer.old writer.new
+            (FinishesNow self.old self.new report)) }
         // Nothing was written: no epoch of the whole stream has a value, or none that has one is chosen.
-        ensures empty { (fault : Fault) → IsOfNone fault → IsErrOf result fault
-            → FinishesEmptyNow self.old self.new (W.waiting writer.new.inner) (W.contents writer.old.inner)
-            (W.contents writer.new.inner) fault }
+        ensures empty { IfEmpty result (λ fault. WritesBytes W.contents writer.old writer.new
+            (FinishesEmptyNow self.old self.new fault)) }
         // A prefix of the rest of the file was written.
         ensures part { IsErrOf result Fault.Write → WritesBytes W.contents writer.old writer.new (StopsAtEnd self.old) }
         // Nothing waits in the writer, unless it failed.
@@ -245,24 +241,21 @@ impl Converter {
         pieces: &[Vec<u8>],
         writer: &mut Counted<W>,
     ) -> Result<Report, Fault>
-        ensures refused { IfSome (refusal self.old)
-            (λ fault. (result ≡ Err fault) × (self.new ≡ self.old) × (writer.new ≡ writer.old)) }
+        ensures refused { IsRefused self.old self.new (writer.new ≡ writer.old) result }
         // The file of all the bytes, those accepted before and those of the pieces, was completed,
         // with that report, and the converter holds and has examined the values for all bytes,
         // within the bounds.
-        ensures whole { IfOk result (λ report. CompletesFile self.old self.new (W.waiting writer.new.inner)
-            (W.contents writer.old.inner) (W.contents writer.new.inner) report (joined_pieces pieces.now)) }
+        ensures whole { IfOk result (λ report. WritesBytes W.contents writer.old writer.new
+            (CompletesFile self.old self.new report (joined_pieces pieces.now))) }
         // Nothing was written: no epoch of the whole stream has a value, or none that has one is chosen.
-        ensures empty { (fault : Fault) → IsOfNone fault → IsErrOf result fault
-            → CompletesEmptyFile self.old self.new (W.waiting writer.new.inner) (W.contents writer.old.inner)
-            (W.contents writer.new.inner) fault (joined_pieces pieces.now) }
+        ensures empty { IfEmpty result (λ fault. WritesBytes W.contents writer.old writer.new
+            (CompletesEmptyFile self.old self.new fault (joined_pieces pieces.now))) }
         // The bytes up to the limit were accepted, and what they add was written.
         ensures long { IsErrOf result Fault.TooLong
-            → CutsAtLimit self.old self.new (W.contents writer.old.inner) (W.contents writer.new.inner)
-            (joined_pieces pieces.now) }
+            → WritesBytes W.contents writer.old writer.new (CutsAtLimit self.old self.new (joined_pieces pieces.now)) }
         // The writer failed at one of the pieces, or at the end.
         ensures write { IsErrOf result Fault.Write
-            → StopsInPieces self.old (W.contents writer.old.inner) (W.contents writer.new.inner) pieces.now }
+            → WritesBytes W.contents writer.old writer.new (StopsInPieces self.old pieces.now) }
         // Nothing waits in the writer, unless it failed.
         ensures sent { IsSentAfter result (W.waiting writer.old.inner) (W.waiting writer.new.inner) }
         ensures device { FailsWithWriter result writer.old writer.new }
@@ -299,24 +292,20 @@ impl Converter {
         reader: &mut Counted<R>,
         writer: &mut Counted<W>,
     ) -> Result<Report, Fault>
-        ensures refused { IfSome (refusal self.old) (λ fault.
-            (result ≡ Err fault) × (self.new ≡ self.old) × IsUntouched reader.old reader.new writer.old writer.new) }
+        ensures refused { IsRefused self.old self.new (IsUntouched reader.old reader.new writer.old writer.new) result }
         // The rest of the file of all the bytes was written, and that is the report.
         ensures whole { IfOk result (λ report. Moves R.remaining reader.old reader.new W.contents writer.old writer.new
-            (CompletesFileOfAll self.old self.new (W.waiting writer.new.inner) report)) }
+            (CompletesFileOfAll self.old self.new report)) }
         // Nothing was written: no epoch of the whole stream has a value, or none that has one is chosen.
-        ensures empty { (fault : Fault) → IsOfNone fault → IsErrOf result fault
-            → Moves R.remaining reader.old reader.new W.contents writer.old writer.new
-            (CompletesEmptyFileOfAll self.old self.new (W.waiting writer.new.inner) fault) }
+        ensures empty { IfEmpty result (λ f. Moves R.remaining reader.old reader.new W.contents writer.old writer.new
+            (CompletesEmptyFileOfAll self.old self.new f)) }
         // The stream is longer than the limit; the bytes up to it were accepted, and what they add
         // was written.
         ensures long { IsErrOf result Fault.TooLong
-            → Moves R.remaining reader.old reader.new W.contents writer.old writer.new
-            (RanToLimit self.old self.new) }
+            → Moves R.remaining reader.old reader.new W.contents writer.old writer.new (RanToLimit self.old self.new) }
         // The reader failed: what the bytes read before add was written.
         ensures read { IsErrOf result Fault.Read
-            → Moves R.remaining reader.old reader.new W.contents writer.old writer.new
-            (RanToFault self.old self.new) }
+            → Moves R.remaining reader.old reader.new W.contents writer.old writer.new (RanToFault self.old self.new) }
         // The writer failed, at one of the pieces or at the end.
         ensures write { IsErrOf result Fault.Write
             → Moves R.remaining reader.old reader.new W.contents writer.old writer.new
@@ -352,8 +341,8 @@ impl Converter {
     pub fn kept(&self) -> Kept
         ensures value { result ≡ kept_of self.now }
         ensures bounds { IsWithinBounds self.now.scan.taken (kept_of self.now) }
-        ensures now { (s : SetupValue) (b : List ℕ) → HasConverted self.now s b → IsKeptNow s b (kept_of self.now) }
-        ensures all { (s : SetupValue) (b : List ℕ) → HasFinished self.now s b → IsKeptAtEnd s b (kept_of self.now) }
+        ensures now { ForAccepted self.now (λ s b. IsKeptNow s b (kept_of self.now)) }
+        ensures all { ForFinished self.now (λ s b. IsKeptAtEnd s b (kept_of self.now)) }
     {
         Kept {
             held: self.held(),
@@ -371,9 +360,8 @@ impl Converter {
         ensures room { IsGoing self.now → result ≤ most_undecided }
         // The held bytes are those from the first undecided offset on; none after the end of the
         // stream.
-        ensures undecided { (s : SetupValue) (b : List ℕ) → HasConverted self.now s b
-            → self.now.scan.held ≡ drop (decided b) b }
-        ensures nothing { (s : SetupValue) (b : List ℕ) → HasFinished self.now s b → result ≡ 0 }
+        ensures undecided { ForAccepted self.now (λ s b. self.now.scan.held ≡ drop (decided b) b) }
+        ensures nothing { ForFinished self.now (λ s b. result ≡ 0) }
     {
         self.framer.held()
     }
@@ -382,10 +370,8 @@ impl Converter {
     /// if none is pending, of the one closed last.
     pub fn cells(&self, system: System) -> usize
         ensures value { result ≡ length (cells_of system self.now.file_writer.gatherer.epoch) }
-        ensures now { (s : SetupValue) (b : List ℕ) → HasConverted self.now s b
-            → result ≡ cells_kept s system (decided_frames b) }
-        ensures all { (s : SetupValue) (b : List ℕ) → HasFinished self.now s b
-            → result ≡ cells_kept s system (frames_of b) }
+        ensures now { ForAccepted self.now (λ s b. result ≡ cells_kept s system (decided_frames b)) }
+        ensures all { ForFinished self.now (λ s b. result ≡ cells_kept s system (frames_of b)) }
         ensures bound { result ≤ most_cells }
     {
         self.file_writer.gatherer.cells(system)
@@ -396,9 +382,8 @@ impl Converter {
     /// lock.
     pub fn locks(&self) -> usize
         ensures value { result ≡ recorded self.now.file_writer.gatherer.locks }
-        ensures now { (s : SetupValue) (b : List ℕ) → HasConverted self.now s b
-            → result ≡ locks_kept s (decided_frames b) }
-        ensures all { (s : SetupValue) (b : List ℕ) → HasFinished self.now s b → result ≡ locks_in_all s (frames_of b) }
+        ensures now { ForAccepted self.now (λ s b. result ≡ locks_kept s (decided_frames b)) }
+        ensures all { ForFinished self.now (λ s b. result ≡ locks_in_all s (frames_of b)) }
         ensures bound { result ≤ most_locks }
     {
         obs_epoch::laws::closed_stay();
@@ -410,8 +395,8 @@ impl Converter {
         ensures value { result ≡ self.now.scan.examined }
         // At most 1,030 for each byte accepted, at every moment.
         ensures bound { result ≤ most_looks * self.now.scan.taken }
-        ensures now { (s : SetupValue) (b : List ℕ) → HasConverted self.now s b → result ≡ examined_now b }
-        ensures all { (s : SetupValue) (b : List ℕ) → HasFinished self.now s b → result ≡ examined b }
+        ensures now { ForAccepted self.now (λ s b. result ≡ examined_now b) }
+        ensures all { ForFinished self.now (λ s b. result ≡ examined b) }
     {
         self.framer.examined()
     }
@@ -420,8 +405,8 @@ impl Converter {
     pub fn most(&self) -> u16
         ensures value { result ≡ self.now.scan.most }
         ensures bound { result ≤ most_looks }
-        ensures now { (s : SetupValue) (b : List ℕ) → HasConverted self.now s b → result ≡ most_now b }
-        ensures all { (s : SetupValue) (b : List ℕ) → HasFinished self.now s b → result ≡ most b }
+        ensures now { ForAccepted self.now (λ s b. result ≡ most_now b) }
+        ensures all { ForFinished self.now (λ s b. result ≡ most b) }
     {
         self.framer.most()
     }

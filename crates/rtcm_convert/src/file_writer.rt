@@ -1,13 +1,13 @@
 //! From frames to the bytes of a file, and the end of a stream.
 ghost use Rattle.std.specs.Prelude.{◌≡◌, ◌↔◌, [], false, true, Err, OnOk, OnErr, IfOk, IfErr};
-ghost use Rattle.devices.specs.Device.{FailsWith, WritesText};
+ghost use Rattle.devices.specs.Device.{FailsWith, WritesBytes, WritesText};
 ghost use Rattle.rtcm_msg.specs.inner.Viewed.{viewed_message};
 ghost use Rattle.rtcm_convert.specs.Faults.{IsSetupFault};
 ghost use Rattle.rtcm_convert.specs.SetupValues.{setup_value, IsBadStart};
 ghost use Rattle.rtcm_convert.specs.Filed.{HasFiledFrames, opening_of, added_by, HasCountedClosed};
 ghost use Rattle.rtcm_convert.specs.inner.Steps.{IsCloseFirst, IsFinalKind, WritesFirst, TakesMessage, IsTakenAgain};
 ghost use Rattle.rtcm_convert.specs.inner.Steps.{IsKindOf, BreaksInMessage, TakesNext, IsKindOfNext, BreaksInNext};
-ghost use Rattle.rtcm_convert.specs.inner.Steps.{EndsFile, BreaksInRest, WritesBytes};
+ghost use Rattle.rtcm_convert.specs.inner.Steps.{EndsFile, BreaksInRest};
 ghost use Rattle.rtcm_scan.specs.Examined.{HasExaminedSome};
 ghost use Rattle.rtcm_convert.specs.inner.Stream.{Files, BreaksFiling, HasDrainedSome, EndsBytes, BreaksAtEndOf};
 

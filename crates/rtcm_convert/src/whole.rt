@@ -1,7 +1,7 @@
 //! Whole streams.
 ghost use Rattle.std.specs.Prelude.{◌≡◌, ◌≢◌, ◌↔◌, Err, IsErrOf, IfOk, IfErr, IfSome};
 ghost use Rattle.devices.specs.Device.{IsUntouched, Moves};
-ghost use Rattle.rtcm_convert.specs.Faults.{FailsWithDevices, IsOfNone, IsSentAfter, IsSetupFault};
+ghost use Rattle.rtcm_convert.specs.Faults.{FailsWithDevices, IfEmpty, IsSentAfter, IsSetupFault};
 ghost use Rattle.rtcm_convert.specs.Made.{IsMadeWith, IsMadeEmpty, IsMadeToLimit, IsMadeSoFar, IsMadeInPart};
 ghost use Rattle.rtcm_convert.specs.SetupValues.{IsBad};
 
@@ -35,21 +35,18 @@ pub fn convert_stream<R: Read, W: Deliver>(
         (IsMadeWith setup report (W.contents writer.old.inner) (W.contents writer.new.inner))) }
     // The file has no epoch and is empty, as no epoch of the stream has a value, or none that has
     // one is chosen.
-    ensures empty { (fault : Fault) → IsOfNone fault → IsErrOf result fault
-        → IfSome (R.remaining reader.old.inner)
-        (IsMadeEmpty setup fault (W.contents writer.old.inner) (W.contents writer.new.inner)) }
+    ensures empty { IfEmpty result (λ fault. IfSome (R.remaining reader.old.inner)
+        (IsMadeEmpty setup fault (W.contents writer.old.inner) (W.contents writer.new.inner))) }
     // The stream is longer than the limit; the bytes up to it were accepted, and the file of the
     // epochs that they close was written.
     ensures long { IsErrOf result Fault.TooLong
-        → Moves R.remaining reader.old reader.new W.contents writer.old writer.new
-        (IsMadeToLimit setup) }
+        → Moves R.remaining reader.old reader.new W.contents writer.old writer.new (IsMadeToLimit setup) }
     // The file of the epochs that the bytes read close was written.
     ensures read { IsErrOf result Fault.Read → Moves R.remaining reader.old reader.new W.contents writer.old writer.new
         (IsMadeSoFar setup) }
     // The writer failed at one of the pieces read, or when all was read.
     ensures write { IsErrOf result Fault.Write
-        → Moves R.remaining reader.old reader.new W.contents writer.old writer.new
-        (IsMadeInPart setup) }
+        → Moves R.remaining reader.old reader.new W.contents writer.old writer.new (IsMadeInPart setup) }
     // Nothing waits in the writer, unless it failed.
     ensures sent { IsSentAfter result (W.waiting writer.old.inner) (W.waiting writer.new.inner) }
     ensures devices { FailsWithDevices result reader.old reader.new writer.old writer.new }

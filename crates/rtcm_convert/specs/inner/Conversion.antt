@@ -38,21 +38,21 @@ pub record Continued (w : Conversion) (a b : Option (List ℕ)) (s : SetupValue)
   pub bounds : IsWithinBounds (length all) (kept_of w)
 
 -- it accepted these further bytes
-abbrev pub TakesPiece : (v w : Conversion) (a b : Option (List ℕ)) → List ℕ → Type 0
-TakesPiece v w a b piece = ForAccepted v (λ s bytes. Continued w a b s bytes (bytes ++ piece))
+abbrev pub TakesPiece : (v w : Conversion) → List ℕ → (a b : Option (List ℕ)) → Type 0
+TakesPiece v w piece a b = ForAccepted v (λ s bytes. Continued w a b s bytes (bytes ++ piece))
 
 -- a prefix of what these bytes add was written
-abbrev pub WritesPrefixOfAdded : Conversion → (a b : Option (List ℕ)) → List ℕ → Type 0
-WritesPrefixOfAdded v a b piece = ForAccepted v (λ s bytes. AppendsPrefixOfDecided a b s bytes (bytes ++ piece))
+abbrev pub WritesPrefixOfAdded : Conversion → List ℕ → (a b : Option (List ℕ)) → Type 0
+WritesPrefixOfAdded v piece a b = ForAccepted v (λ s bytes. AppendsPrefixOfDecided a b s bytes (bytes ++ piece))
 
 -- the stream ends here, and a prefix of the rest of its file was written
 abbrev pub StopsAtEnd : Conversion → (a b : Option (List ℕ)) → Type 0
 StopsAtEnd v a b = ForAccepted v (λ s bytes. AppendsPrefixOfRest a b s bytes bytes)
 
 -- the stream ends here, and the file was completed
-abbrev pub FinishesNow : (v w : Conversion) → List ℕ → (a b : Option (List ℕ)) → Report → Type 0
-FinishesNow v w waiting a b report = ForAccepted v (λ s bytes. Completed w waiting a b s bytes bytes report)
+abbrev pub FinishesNow : (v w : Conversion) → Report → (a b : Option (List ℕ)) → Type 0
+FinishesNow v w report a b = ForAccepted v (λ s bytes. Completed w report a b s bytes bytes)
 
 -- the stream ends here, and the file was completed and is empty
-abbrev pub FinishesEmptyNow : (v w : Conversion) → List ℕ → (a b : Option (List ℕ)) → Fault → Type 0
-FinishesEmptyNow v w waiting a b fault = ForAccepted v (λ s bytes. CompletedEmpty w waiting a b fault s bytes bytes)
+abbrev pub FinishesEmptyNow : (v w : Conversion) → Fault → (a b : Option (List ℕ)) → Type 0
+FinishesEmptyNow v w fault a b = ForAccepted v (λ s bytes. CompletedEmpty w fault a b s bytes bytes)

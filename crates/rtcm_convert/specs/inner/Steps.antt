@@ -1,6 +1,5 @@
 -- What the calls of the file writer do, for all messages and frames before.
 use Rattle.std.specs.Prelude.{◌≡◌, ℕ, true, false, List, [], ◌∷◌, ◌++◌, Option, Some, None}
-use Rattle.devices.specs.Device.{Device}
 use Rattle.rtcm_scan.specs.Frames.{Framed}
 use Rattle.gnss_obs.specs.Values.{Closed}
 use Rattle.rtcm_msg.specs.declared.message.Message.{Message}
@@ -14,11 +13,6 @@ use Rattle.rtcm_convert.specs.Fed.{AppendsBetween, AppendsPrefixBetween}
 use Rattle.rtcm_convert.specs.Filed.{HasFiledEpochs, Settled, HasFiledFrames, HasGathered}
 use Rattle.rtcm_convert.specs.declared.file_writer.FileWriter.{FileWriter}
 use Rattle.rtcm_convert.specs.declared.report.Report.{Report}
-
--- P relates the bytes written before and after a call
-abbrev pub WritesBytes : {W : Type 0} → (W → Option (List ℕ)) → (o o' : Device W)
-    → ((a b : Option (List ℕ)) → Type 0) → Type 0
-WritesBytes contents o o' P = P (contents o.inner) (contents o'.inner)
 
 -- ---- a message that is passed, for the first time or again: it is heard by the setup of the gatherer
 

@@ -16,8 +16,8 @@ returns g c =
     let left = n.left.0.1 h.history.going in
     let no = never (λ f. LeftBy f w) run_known r left in
     record {
-      made = run_made _ from _ _ r new (c.read_back.ensures.some h.fits) n.whole;
-      empty = λ fault none e. run_empty _ _ from _ _ new (n.empty fault none e);
+      made = run_made from _ _ r new (c.read_back.ensures.some h.fits) n.whole;
+      empty = λ fault none e. run_empty _ from _ _ new (n.empty fault none e);
       long = λ e. run_long new (n.long e);
       read = λ e. run_read from _ new (n.read e);
       write = λ e. run_write from _ new (n.write e);

@@ -14,7 +14,7 @@ invariant_of-self g c =
 pub returns-in-Ok-clause-whole : goal.returns-in-Ok-clause-whole
 returns-in-Ok-clause-whole g c =
     let go = going_on c.self.view_is c.in_ok-refuse.ensures.going in
-    subst (λ (x : Conversion). TakesPiece x (with_flags c.self.inside.failed c.self.inside.finished c.feed.new.self c.feed.new.sink) (g.W.Write.contents c.args.writer.now.inner) (g.W.Write.contents c.feed.new.out.inner) c.args.piece.now) c.self.view_is (fed_whole c.args.piece.now (record { bounds = c.kept.ensures.bounds; values = c.kept.ensures.now }) (c.self.invariant.listening go) (c.feed.ensures.same.ended ∙ c.self.invariant.listening go) c.in-Ok.ensures.whole)
+    subst (λ (x : Conversion). TakesPiece x (with_flags c.self.inside.failed c.self.inside.finished c.feed.new.self c.feed.new.sink) c.args.piece.now (g.W.Write.contents c.args.writer.now.inner) (g.W.Write.contents c.feed.new.out.inner)) c.self.view_is (fed_whole c.args.piece.now (record { bounds = c.kept.ensures.bounds; values = c.kept.ensures.now }) (c.self.invariant.listening go) (c.feed.ensures.same.ended ∙ c.self.invariant.listening go) c.in-Ok.ensures.whole)
 
 pub returns-in-Ok-clause-device : goal.returns-in-Ok-clause-device
 returns-in-Ok-clause-device g c =
@@ -26,12 +26,12 @@ returns-in-Ok-clause-part g c = λ e. absurd (not_err _ _ e)
 pub returns-in-Err-clause-long : goal.returns-in-Err-clause-long
 returns-in-Err-clause-long g c =
     let go = going_on c.self.view_is c.in_ok-refuse.ensures.going in
-    λ e. subst (λ (x : Conversion). CutsAtLimit x (with_flags true c.self.inside.finished c.feed.new.self c.feed.new.sink) (g.W.Write.contents c.args.writer.now.inner) (g.W.Write.contents c.feed.new.out.inner) c.args.piece.now) c.self.view_is
+    λ e. subst (λ (x : Conversion). CutsAtLimit x (with_flags true c.self.inside.finished c.feed.new.self c.feed.new.sink) c.args.piece.now (g.W.Write.contents c.args.writer.now.inner) (g.W.Write.contents c.feed.new.out.inner)) c.self.view_is
     (fed_long c.args.piece.now (c.self.invariant.listening go) (c.feed.ensures.same.ended ∙ c.self.invariant.listening go) (long_of c.in-Err.stopped _ _ _ c.from.ensures c.in-Err.ensures.fault e))
 
 pub returns-in-Err-clause-part : goal.returns-in-Err-clause-part
 returns-in-Err-clause-part g c =
-    λ e. subst (λ (x : Conversion). WritesPrefixOfAdded x (g.W.Write.contents c.args.writer.now.inner) (g.W.Write.contents c.feed.new.out.inner) c.args.piece.now) c.self.view_is
+    λ e. subst (λ (x : Conversion). WritesPrefixOfAdded x c.args.piece.now (g.W.Write.contents c.args.writer.now.inner) (g.W.Write.contents c.feed.new.out.inner)) c.self.view_is
     (fed_part c.args.piece.now c.filed.ensures.grows (c.self.invariant.listening (going_on c.self.view_is c.in_ok-refuse.ensures.going)) (sink_of c.in-Err.stopped _ _ _ c.from.ensures c.in-Err.ensures.fault e))
 
 pub returns-in-Err-clause-device : goal.returns-in-Err-clause-device
