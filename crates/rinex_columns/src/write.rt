@@ -2,7 +2,6 @@
 ghost use Rattle.std.specs.Prelude.{◌≡◌, ◌+◌, ◌^◌, ◌≤◌, ◌*◌, ◌∷◌, pos, replicate, decimal, length};
 ghost use Rattle.rinex_columns.specs.Numbers.{Adds, fixed, padded, left, right};
 ghost use Rattle.arrayvec.specs.ArrayVec.{array_vec_len};
-ghost use Rattle.rinex_columns.specs.Limits.{most_line};
 
 use arrayvec::ArrayVec;
 use gnss_system::MOST_SIGNALS;
@@ -30,16 +29,13 @@ pub fn put<const N: usize>(line: &mut ArrayVec<u8, N>, bytes: &[u8])
     let _ = line.try_extend_from_slice(bytes);
 }
 
-static BLANKS: [u8; MOST_LINE] = [b' '; MOST_LINE];
-
-/// Appends blanks.
-fn put_blanks(line: &mut Line, count: usize)
-    requires { array_vec_len line.old + count ≤ most_line }
-    ensures { Adds line.old.items line.new.items (replicate count 32) count }
+/// Appends this number of copies of a byte.
+fn put_copies<const N: usize>(line: &mut ArrayVec<u8, N>, byte: u8, count: usize)
+    requires { array_vec_len line.old + count ≤ N }
+    ensures { Adds line.old.items line.new.items (replicate count byte) count }
 {
-    // Usually none is missing, and a call that fills nothing costs as much as a short one.
-    if count > 0 {
-        put(line, &BLANKS[..count]);
+    for _ in 0..count {
+        line.push(byte);
     }
 }
 
@@ -50,34 +46,32 @@ fn put_padded<const N: usize>(line: &mut ArrayVec<u8, N>, places: usize, number:
 {
     let mut buffer = Buffer::new();
     let digits = buffer.format(number).as_bytes();
-    for _ in 0..places.saturating_sub(digits.len()) {
-        line.push(b'0');
-    }
+    put_copies(line, b'0', places.saturating_sub(digits.len()));
     put(line, digits);
 }
 
 /// Appends a text, left-aligned in `width` columns.
-pub fn put_left(line: &mut Line, width: usize, text: &[u8])
-    requires room { array_vec_len line.old + width + length text.now ≤ most_line }
+pub fn put_left<const N: usize>(line: &mut ArrayVec<u8, N>, width: usize, text: &[u8])
+    requires room { array_vec_len line.old + width + length text.now ≤ N }
     ensures { Adds line.old.items line.new.items (left width text.now) (width + length text.now) }
 {
     put(line, text);
-    put_blanks(line, width.saturating_sub(text.len()));
+    put_copies(line, b' ', width.saturating_sub(text.len()));
 }
 
 /// Appends a text, right-aligned in `width` columns.
-fn put_right(line: &mut Line, width: usize, text: &[u8])
-    requires room { array_vec_len line.old + width + length text.now ≤ most_line }
+fn put_right<const N: usize>(line: &mut ArrayVec<u8, N>, width: usize, text: &[u8])
+    requires room { array_vec_len line.old + width + length text.now ≤ N }
     ensures { Adds line.old.items line.new.items (right width text.now) (width + length text.now) }
 {
-    put_blanks(line, width.saturating_sub(text.len()));
+    put_copies(line, b' ', width.saturating_sub(text.len()));
     put(line, text);
 }
 
 /// Appends a whole number, right-aligned in `width` columns.
-pub fn put_whole(line: &mut Line, width: usize, number: u64)
+pub fn put_whole<const N: usize>(line: &mut ArrayVec<u8, N>, width: usize, number: u64)
     requires width { width ≤ 20 }
-    requires room { array_vec_len line.old + 60 ≤ most_line }
+    requires room { array_vec_len line.old + 60 ≤ N }
     ensures { Adds line.old.items line.new.items (right width (decimal number)) 60 }
 {
     put_right(line, width, Buffer::new().format(number).as_bytes());
@@ -85,9 +79,15 @@ pub fn put_whole(line: &mut Line, width: usize, number: u64)
 
 /// Appends a number, given in units of 10 to the minus `places`, with a decimal point and
 /// right-aligned in `width` columns.
-pub fn put_fixed(line: &mut Line, width: usize, places: usize, scale: u64, value: i64)
+pub fn put_fixed<const N: usize>(
+    line: &mut ArrayVec<u8, N>,
+    width: usize,
+    places: usize,
+    scale: u64,
+    value: i64,
+)
     requires width { width ≤ 20 }
-    requires room { array_vec_len line.old + 84 ≤ most_line }
+    requires room { array_vec_len line.old + 84 ≤ N }
     requires places { places ≤ 20 }
     requires scale { scale ≡ 10 ^ places }
     ensures { Adds line.old.items line.new.items (right width (fixed places value)) 84 }
@@ -105,17 +105,17 @@ pub fn put_fixed(line: &mut Line, width: usize, places: usize, scale: u64, value
 
 /// Appends seconds, given in milliseconds, with seven decimals and right-aligned in `width`
 /// columns.
-pub fn put_seconds(line: &mut Line, width: usize, milliseconds: u16)
+pub fn put_seconds<const N: usize>(line: &mut ArrayVec<u8, N>, width: usize, milliseconds: u16)
     requires width { width ≤ 20 }
-    requires room { array_vec_len line.old + 84 ≤ most_line }
+    requires room { array_vec_len line.old + 84 ≤ N }
     ensures { Adds line.old.items line.new.items (right width (fixed 7 (pos (milliseconds * 10_000)))) 84 }
 {
     put_fixed(line, width, 7, 10_000_000, milliseconds as i64 * 10_000);
 }
 
 /// Appends a blank and a number with two digits.
-pub fn put_two(line: &mut Line, number: u8)
-    requires { array_vec_len line.old + 23 ≤ most_line }
+pub fn put_two<const N: usize>(line: &mut ArrayVec<u8, N>, number: u8)
+    requires { array_vec_len line.old + 23 ≤ N }
     ensures { Adds line.old.items line.new.items (32 ∷ padded 2 number) 23 }
 {
     put(line, b" ");

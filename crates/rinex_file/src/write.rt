@@ -15,12 +15,13 @@ pub(crate) mod satellite;
 use crate::header::fault::HeadFault;
 use crate::header::head::{Head, header_lines};
 use crate::header::lines::{delta_line, position_line};
-use crate::write::line::{epoch_line, event_line};
+use crate::write::line::{EPOCH_ROOM, event_line, put_epoch};
 use crate::write::satellite::put_satellite_line;
+use arrayvec::ArrayVec;
 use devices::{Counted, DeviceFailed};
 use gnss_obs::{Epoch, Plan, StationValues, end_of, is_written};
 use gnss_system::{SYSTEMS, System};
-use rinex_columns::{Line, MOST_LINE};
+use rinex_columns::MOST_LINE;
 use std::io::Write;
 
 /// Writes a header, line by line.
@@ -126,8 +127,8 @@ pub fn write_epoch<W: Write>(
     ensures written { WritesText result W.contents writer.old writer.new (epoch_text plan.now epoch.now.epoch) }
     ensures only { IfErr result (λ fault. fault ≡ HeadFault.Write) }
 {
-    let mut line = Line::new();
-    epoch_line(epoch.time(), epoch.satellites(), &mut line);
+    let mut line: ArrayVec<u8, EPOCH_ROOM> = ArrayVec::new();
+    put_epoch(epoch.time(), epoch.satellites(), &mut line);
     writer.write_whole(line.as_slice())?;
     write_systems(epoch, plan, writer)?;
     Ok(())

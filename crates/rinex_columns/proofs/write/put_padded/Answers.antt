@@ -1,11 +1,8 @@
 use Rattle.rinex_columns.proofs.Names.{arith, common_steps}
 use Rattle.rinex_columns.proofs.write.put_padded.Goals as goal
 
-pub push-requires : goal.push-requires
-push-requires g c = grind (arith, common_steps)
-
-pub loop-preserved : goal.loop-preserved
-loop-preserved g c = grind (arith, common_steps)
+pub put_copies-requires : goal.put_copies-requires
+put_copies-requires g c = grind (arith, common_steps)
 
 pub put-requires : goal.put-requires
 put-requires g c = grind (arith, common_steps)

@@ -1,10 +1,10 @@
 use Rattle.rinex_file.proofs.Writing.Grown.{grown_whole}
 use Rattle.rinex_file.proofs.Names.{◌∙◌, ◌∷◌, ◌*◌, [], ap, refl, decimal, codes, pos, epoch_line, right, fixed, padded}
-use Rattle.rinex_file.proofs.write.line.epoch_line.Goals as goal
+use Rattle.rinex_file.proofs.write.line.put_epoch.Goals as goal
 
 pub returns : goal.returns
 unfolding epoch_line
-returns c =
+returns g c =
     let t = c.civil-civil.result in
     let begin = c.put.ensures.text in let year = c.put_whole.ensures.text in let month = c.put_two.ensures.text in let day = c.put_two-2.ensures.text in
     let hour = c.put_two-3.ensures.text in let minute = c.put_two-4.ensures.text in let second = c.put_seconds.ensures.text in

@@ -1,6 +1,0 @@
-use Rattle.std.proofs.Common.{◌≡◌, ◌++◌, replicate}
-use Rattle.rinex_columns.proofs.write.put_padded.Given as goal
-
--- this number of zeros was appended
-abbrev pub invariant-loop : goal.invariant-loop
-invariant-loop g l = l.line.items ≡ l.fn.line.items ++ replicate l.counter 48
