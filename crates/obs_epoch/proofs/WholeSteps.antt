@@ -5,13 +5,12 @@ use Rattle.obs_epoch.specs.Cells.{no_counts}
 use Rattle.obs_epoch.specs.Kinds.{is_accepted}
 use Rattle.obs_epoch.specs.GathererAfter.{GathererValue}
 use Rattle.obs_epoch.specs.inner.Step.{closed_time, kind_by}
-use Rattle.obs_epoch.specs.inner.GathererSteps.{Loaded, epoch_begun, load_heard, noted, stopped, with_time}
+use Rattle.obs_epoch.specs.inner.GathererSteps.{Loaded, epoch_begun, load_heard, noted, stopped, unloaded, with_time}
 
 -- The cells of a message are kept if it is accepted.
 abbrev pub loaded_if : Bool → Option ℕ → GathererValue → Heard → Loaded
 loaded_if accepted before g m =
-    if accepted then load_heard (record { state = epoch_begun before g; counts = no_counts }) m
-    else record { state = g; counts = no_counts }
+    if accepted then load_heard (unloaded (epoch_begun before g)) m else unloaded g
 
 abbrev pub closed_if : Bool → Loaded → Loaded
 closed_if b l = record { state = if b then noted l.state else l.state; counts = l.counts }

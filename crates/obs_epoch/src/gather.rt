@@ -24,8 +24,8 @@ ghost use Rattle.obs_epoch.specs.GathererHistory.{HasGatheredEpochs, closed_by, 
 ghost use Rattle.obs_epoch.specs.inner.Calls.{TakesMessage, EndsPendingEpoch, StaysEnded, HoldsCells, HoldsLockedKeys};
 ghost use Rattle.obs_epoch.specs.inner.Calls.{CountsEpochs};
 ghost use Rattle.gnss_obs.specs.declared.fault.PlanFault.{PlanFault};
-ghost use Rattle.obs_epoch.specs.inner.GathererSteps.{closed_noted, loaded_where, load_entry, load_entries, begun_by};
-ghost use Rattle.obs_epoch.specs.inner.GathererSteps.{cleared_if, thinned, thinned_if};
+ghost use Rattle.obs_epoch.specs.inner.GathererSteps.{closed_noted, loaded_where, load_entry, load_entries, unloaded};
+ghost use Rattle.obs_epoch.specs.inner.GathererSteps.{begun_by, cleared_if, thinned, thinned_if};
 ghost use Rattle.obs_epoch.specs.inner.Marks.{any_loss};
 ghost use Rattle.gnss_system.specs.Systems.{systems};
 ghost use Rattle.obs_epoch.specs.inner.GathererSteps.{load, system_as, rested, outcome_in, hold, shut_where};
@@ -361,8 +361,7 @@ impl Gatherer {
         requires pending { self.old.clock.pending ≡ true }
         requires none { n.old ≡ no_counts }
         ensures { record { state = self.new; counts = n.new }
-            ≡ load_entries m.now.form m.now.msm.system (record { state = self.old; counts = no_counts })
-            (entries (messages.Msm m.now)) }
+            ≡ load_entries m.now.form m.now.msm.system (unloaded self.old) (entries (messages.Msm m.now)) }
     {
         match m.form() {
             Form::Msm4 => self.load_as::<S, 4>(m, n),
@@ -381,8 +380,7 @@ impl Gatherer {
         requires pending { self.old.clock.pending ≡ true }
         requires none { n.old ≡ no_counts }
         ensures { record { state = self.new; counts = n.new }
-            ≡ load_entries m.now.form m.now.msm.system (record { state = self.old; counts = no_counts })
-            (entries (messages.Msm m.now)) }
+            ≡ load_entries m.now.form m.now.msm.system (unloaded self.old) (entries (messages.Msm m.now)) }
     {
         self.load_entries::<S, F>(m.system(), &mut m.entries(), n);
     }
@@ -437,7 +435,7 @@ impl Gatherer {
         requires none { n.old ≡ no_counts }
         requires few { length cells.old.left ≤ most_pairs }
         ensures { record { state = self.new; counts = n.new }
-            ≡ load_entries cells.old.form system (record { state = self.old; counts = no_counts }) cells.old.left }
+            ≡ load_entries cells.old.form system (unloaded self.old) cells.old.left }
     {
         let (form, system) = (form_as::<F>(), system_as::<S>(system));
         let time = self.clock.time().milliseconds();

@@ -85,6 +85,10 @@ pub record Loaded : Type 0 where
   pub state : GathererValue
   pub counts : CellCounts
 
+-- No cell of a message was processed yet.
+abbrev pub unloaded : GathererValue → Loaded
+unloaded g = record { state = g; counts = no_counts }
+
 abbrev pub load_one : Loaded → HeardCell → Loaded
 load_one l x = record { state = hold l.state x; counts = count_in (lacks_channel l.state.clock.setup x) (outcome_in l.state x) l.counts }
 
@@ -132,9 +136,7 @@ epoch_begun before g =
 
 -- The cells of a message are kept in the epoch that has begun, if it is accepted.
 abbrev pub loaded_where : Bool → GathererValue → Heard → Loaded
-loaded_where accepted g m =
-    if accepted then load_heard (record { state = g; counts = no_counts }) m
-    else record { state = g; counts = no_counts }
+loaded_where accepted g m = if accepted then load_heard (unloaded g) m else unloaded g
 
 -- The clock and the station values process the message.
 abbrev pub with_time : GathererValue → Heard → GathererValue
