@@ -1,5 +1,5 @@
 -- What is read of messages if only the MSMs of a set are decoded.
-use Rattle.rtcm_inspect.proofs.Names.{or-false, ◌⊎◌, list_any_at, inside, outside, refused, other_of, has_msm, is_in_set, value_of, value_tabulated, is_decoded, ReadsAll, false_from_ne_true, true≢false, All-head, All-tail, GatherSetup, entries, is_planned, ◌≡◌, ◌∙◌, ◌++◌, ℕ, Bool, true, false, not, List, [], ◌∷◌, Option, None, Result, Ok, Err, All, All-cons, All-nil, ⊤, ◌&&◌, ap, arith, bits_of, length, list_any-append, nat_lt, option_and_then, option_map_or, refl, subst, sym, if◌then◌else◌, Framed, MsgFault, Message, Msm, Form, Forms, MsmSet, message_at, message_with, have_form, System, Heard, HeardCell, every_channel, heard, heard_of, inspected, inspected_in, inspected_of, is_of_station, set_of, valued, forms_had, has_other_value, needs_all, tow_of, valued_in, valued_of}
+use Rattle.rtcm_inspect.proofs.Names.{or-false, get_or, ◌<◌, ◌⊎◌, list_any_at, inside, outside, refused, other_of, has_msm, is_in_set, value_of, value_tabulated, is_decoded, ReadsAll, false_from_ne_true, true≢false, All-head, All-tail, GatherSetup, entries, is_planned, ◌≡◌, ◌∙◌, ◌++◌, ℕ, Bool, true, false, not, List, [], ◌∷◌, Option, None, Result, Ok, Err, All, All-cons, All-nil, ⊤, ◌&&◌, ap, arith, bits_of, length, list_any-append, nat_lt, option_and_then, option_map_or, refl, subst, sym, if◌then◌else◌, Framed, MsgFault, Message, Msm, Form, Forms, MsmSet, message_at, message_with, have_form, System, Heard, HeardCell, every_channel, heard, heard_of, inspected, inspected_in, inspected_of, is_of_station, set_of, valued, forms_had, has_other_value, needs_all, tow_of, valued_in, valued_of}
 use Rattle.rtcm_msg.specs.declared.number.Forms.TheVariants as forms
 use Rattle.rtcm_inspect.proofs.ValuedLemmas.{valued_system}
 
@@ -111,8 +111,11 @@ not_needed wanted r h = grind arith
 abbrev needs : Option ℕ → Framed → Bool
 needs wanted f = needs_all wanted (message_at f.message)
 
+had_each : (wanted : Option ℕ) (fs : List Framed) (k : ℕ) (d : Framed) → k < length fs → IsHad (forms_had wanted fs) wanted (message_at (get_or fs k d).message)
+had_each wanted fs k d within = grind (arith, not_needed, false_from_ne_true, true≢false, list_any_at)
+
 pub loses_none : (s : GatherSetup) (fs : List Framed) → ArePlanned s (valued_in s.station fs) → All (ReadsAll (set_of s.plan (forms_had s.station fs)) s) fs
-loses_none s fs planned = grind (arith, kept_frame, planned_each, not_needed, false_from_ne_true, true≢false, list_any_at)
+loses_none s fs planned k d within = kept_frame s (forms_had s.station fs) (get_or fs k d) (planned_each s fs planned k d within) (had_each s.station fs k d within)
 
 -- ---- the forms of one more message
 

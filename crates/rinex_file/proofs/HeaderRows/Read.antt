@@ -54,7 +54,13 @@ module _ (s : System) (row : ℕ) (line : List ℕ) (k : Known) (before : AreIte
     size = t.items.size
 
     lists : AreListsAt k → AreListsAt after
-    lists w = grind (arith, common_steps, each_made, size, either, value_after, value_of_other)
+    lists w = record {
+      read = each_made (λ u c xs. length xs ≤ c) (omega (arith, size)) w.read;
+      few = each_made (λ u c xs. c ≤ length (table u)) t.few w.few;
+      slots_read = w.slots_read;
+      room = w.room;
+      unplanned = λ none. w.unplanned (grind (arith, common_steps, either, value_after, value_of_other));
+    }
 
     pub types_read : IsHeaderLineRead (Types s row) line k after
     unfolding row_line
