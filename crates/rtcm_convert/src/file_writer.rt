@@ -29,7 +29,7 @@ use std::io::Write;
 pub(crate) struct FileWriter {
     /// Gathers the cells of the messages into epochs.
     pub(crate) gatherer: Gatherer,
-    /// The MSMs that are decoded.
+    /// The MSMs that are decoded: also those of GPS and Galileo of which no signal is planned.
     pub(crate) set: MsmSet,
     /// The texts of the header.
     pub(crate) texts: HeaderTexts,
