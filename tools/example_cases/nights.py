@@ -1,4 +1,5 @@
 """Tests of the scripts and units for several days and stations: interrupted ones, missed ones, lists that grow."""
+import os
 import re
 import shutil
 import subprocess
@@ -79,6 +80,20 @@ def try_missed(room: Room) -> Outcomes:
     ran = room.run(script("days.sh", STATION))
     starts = (f"{STATION} {past_day(3)}: no file: cat: raw/", f"{STATION} {yesterday}: no log")
     yield "a dangling link, and times alone", begin(ran.stdout, starts) and ran.returncode == 1
+
+
+def try_late_logs(room: Room) -> Outcomes:
+    """A log comes after the night in which its day was converted."""
+    late, yesterday = past_day(3), past_day(1)
+    room.write(f"raw/{STATION}/{late}-010000.rtcm3", stream_of([*day_messages(late, 0, 9)]))
+    room.run(script("days.sh", STATION))
+    ran = room.run(script("days.sh", STATION))
+    yield "a day that is done", begin(ran.stdout, (f"{STATION} {yesterday}: no log",))
+    room.write(f"raw/{STATION}/{late}-020000.rtcm3", stream_of([*day_messages(late, 9, 12)]))
+    os.utime(room.folder / f"raw/{STATION}/{late}-020000.rtcm3", (0, 0))
+    ran = room.run(script("days.sh", STATION))
+    starts = (f"{STATION} {late}: 12 of 2880 epochs, ", f"{STATION} {yesterday}: no log")
+    yield "a log that comes later", begin(ran.stdout, starts)
 
 
 def has_parallel(room: Room) -> bool:
