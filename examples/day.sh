@@ -230,13 +230,13 @@ if has_neighbour && test "$(epochs "$part")" -lt 2880; then
     more=$(alone "$note" "$@" && epochs "$note") || more=0
     test "${more:-0}" -le "$(epochs "$part")" || alone "$part" "$@" || say "no file: $errors"
 fi
-# The faults of the logs beside it are those of other days.
-counts=$report
+# The faults of the logs beside it are those of other days. Logs that overlap always repeat a few cells.
+counts=$report taken=${report##* taken } repeated=${report##* repeated }
 if has_neighbour; then
     case $report in
-    *" faulty 0 "*" past 0 "*" repeated 0 crowded 0 "*) ;;
-    *) counts=$(alone "$note" "$@" && echo "$report") || counts=$report ;;
-    esac
+    *" faulty 0 "*" past 0 "*" crowded 0 "*) test "$((50 * ${repeated%% *}))" -le "${taken%% *}" ;;
+    *) false ;;
+    esac || counts=$(alone "$note" "$@" && echo "$report") || counts=$report
 fi
 # several weeks of GPS, which are known modulo 1,024, are found at the end of the logs only
 several < "$raw" || case $ends in *OtherWeek*) weeks=${ends##*OtherWeek } ;; esac
