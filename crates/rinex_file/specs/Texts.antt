@@ -7,7 +7,6 @@ use Rattle.rinex_file.specs.declared.header.fields.HeaderField.{HeaderField}
 use Rattle.rinex_file.specs.declared.header.fields.HeaderField.TheVariants.{RunBy, Date, Comment, Marker, MarkerNumber}
 use Rattle.rinex_file.specs.declared.header.fields.HeaderField.TheVariants.{MarkerType, Observer, Agency, RecNumber, RecType, RecVersion}
 use Rattle.rinex_file.specs.declared.header.fields.HeaderField.TheVariants.{AntNumber, AntType}
-use Rattle.rinex_file.specs.declared.header.fields.TheConstants.HeaderField.{ALL}
 use Rattle.rinex_file.specs.declared.header.fault.HeadFault.{HeadFault}
 use Rattle.rinex_file.specs.declared.header.fault.HeadFault.TheVariants.{TooLong, NotPrintable}
 use Rattle.rinex_file.specs.Blanks.{trimmed}
@@ -83,7 +82,9 @@ is_required field = (entry_of field).is_required
 
 -- the fields in the order in which they are validated
 abbrev pub fields : List HeaderField
-fields = ALL
+fields =
+    RunBy ∷ Date ∷ Comment ∷ Marker ∷ MarkerNumber ∷ MarkerType ∷ Observer ∷ Agency ∷ RecNumber ∷ RecType ∷ RecVersion
+    ∷ AntNumber ∷ AntType ∷ []
 
 abbrev pub text_count : ℕ
 text_count = length fields
@@ -114,10 +115,10 @@ fault_of field text =
     then (if nat_lt (width_of field) (length (trimmed text)) then Some (TooLong field) else None)
     else Some (NotPrintable field)
 
--- the fault that was found, or else the first fault of these fields
-abbrev pub first_fault : HeaderLists → Option HeadFault → List HeaderField → Option HeadFault
-first_fault t found [] = found
-first_fault t found (field ∷ rest) = first_fault t (option_or found (fault_of field (text_of t field))) rest
+-- the fault of the first of these fields that has one
+abbrev pub first_fault : HeaderLists → List HeaderField → Option HeadFault
+first_fault t [] = None
+first_fault t (field ∷ rest) = option_or (fault_of field (text_of t field)) (first_fault t rest)
 
 -- each text without trailing blanks
 abbrev pub trimmed_texts : HeaderLists → HeaderLists

@@ -252,8 +252,8 @@ pub record IsSetupOf (options : List Row) (x : Setup) : Type 0 where
 -- Of these options a text of the header has this fault; or the texts are valid, and the plan has this fault, or memory
 -- ran out for a signal before its fault.
 abbrev pub HasSetupFault : List Row → CommandFault → Type 0
-HasSetupFault options (faults.Header e) = first_fault (texts_set options) None fields ≡ Some e
-HasSetupFault options (faults.Plan e) = (first_fault (texts_set options) None fields ≡ None)
+HasSetupFault options (faults.Header e) = first_fault (texts_set options) fields ≡ Some e
+HasSetupFault options (faults.Plan e) = (first_fault (texts_set options) fields ≡ None)
     × (((e ≡ plans.Memory) × HasSignal (plan_texts options)) ⊎ (plan_set options ≡ Err e))
 HasSetupFault options other = ⊥
 

@@ -3,6 +3,7 @@ use Rattle.rinex_file.proofs.Rows.Trimmed.{filled, trimmed-blank}
 use Rattle.rinex_file.proofs.PlainTexts.{both}
 use Rattle.rinex_file.proofs.HeaderRows.Types.{content_first}
 use Rattle.std.proofs.Math.ListN.{set, length-set}
+use Rattle.std.specs.Option.{option_or}
 use Rattle.rinex_file.proofs.Names.{get_or-map, AllPass-from_list_all, map-append, common_steps, AreSameTexts, arith, ◌≡◌, ◌∙◌, refl, sym, ap, ap₂, subst, ℕ, Option, suc, ◌+◌, ◌<◌, ◌≤◌, ◌≢◌, List, [], ◌∷◌, length, drop, get_or, add-one, true, Some, None, zero, ◌-◌, ◌++◌, take, replicate, append_assoc, append-nil, length-append, ◌==◌, map, flat_map, list_all, drop-cons, length-map, length-replicate, take_at, drop_at, get_or-set_same, get_or-set_other, get_or_default, ext_get_or, list_all-append, passes_at, is_equal, HeaderField, HeadFault, AntType, trimmed, HeaderLists, text_count, width_of, text_of, is_printable, fault_of, first_fault, fields, fields_of, trimmed_texts, place_of, front_of, label_of, IsText, AreTexts, left, text_columns, texts_line, texts_in, if_fine, RefusesTexts, same_Some, not, list_any, nat_lt, or_parts, ◌||◌, nat_tests, false, Bool, has_row, nil_from_length, nat_le, at_most, line_with, Texts}
 
 pub trimmed-blanks : (k : ℕ) (text : List ℕ) → trimmed (text ++ replicate k 32) ≡ trimmed text
@@ -181,21 +182,17 @@ cut_text f text printable short = record { short = short; printable = printable_
 
 -- ---- one text after the other
 
-found_stays : (t : HeaderLists) (fs : List HeaderField) (fault : HeadFault) → first_fault t (Some fault) fs ≡ Some fault
-found_stays t [] fault = refl
-found_stays t (f ∷ fs) fault = found_stays t fs fault
-
 module _ (t : HeaderLists) (i : ℕ) (d : HeaderField) (less : i < text_count) where
-  fields_next : first_fault t None (drop i fields) ≡ first_fault t (fault_of (get_or fields i d) (text_of t (get_or fields i d))) (drop (suc i) fields)
-  fields_next = ap (first_fault t None) (drop-cons fields i d less)
+  fields_next : first_fault t (drop i fields) ≡ option_or (fault_of (get_or fields i d) (text_of t (get_or fields i d))) (first_fault t (drop (suc i) fields))
+  fields_next = ap (first_fault t) (drop-cons fields i d less)
 
-  pub fault_here : (fault : HeadFault) → fault_of (get_or fields i d) (text_of t (get_or fields i d)) ≡ Some fault → first_fault t None (drop i fields) ≡ Some fault
-  fault_here fault e = fields_next ∙ ap (λ found. first_fault t found (drop (suc i) fields)) e ∙ found_stays t (drop (suc i) fields) fault
+  pub fault_here : (fault : HeadFault) → fault_of (get_or fields i d) (text_of t (get_or fields i d)) ≡ Some fault → first_fault t (drop i fields) ≡ Some fault
+  fault_here fault e = fields_next ∙ ap (λ found. option_or found (first_fault t (drop (suc i) fields))) e
 
-  pub fine_here : fault_of (get_or fields i d) (text_of t (get_or fields i d)) ≡ None → first_fault t None (drop i fields) ≡ first_fault t None (drop (i + 1) fields)
+  pub fine_here : fault_of (get_or fields i d) (text_of t (get_or fields i d)) ≡ None → first_fault t (drop i fields) ≡ first_fault t (drop (i + 1) fields)
   fine_here e =
       let next : suc i ≡ i + 1 = omega arith in
-      fields_next ∙ ap (λ found. first_fault t found (drop (suc i) fields)) e ∙ ap (λ n. first_fault t None (drop n fields)) next
+      fields_next ∙ ap (λ found. option_or found (first_fault t (drop (suc i) fields))) e ∙ ap (λ n. first_fault t (drop n fields)) next
 
 -- the texts so far are cut
 abbrev pub AreCut : ℕ → HeaderLists → HeaderLists → Type 0

@@ -72,47 +72,53 @@ macro_rules! row {
     };
 }
 
-/// Returns texts, one a line.
-macro_rules! fields {
-    ($($name:expr, $width:expr, ($($row:tt)*);)*) => {
-        &[$(Field { name: $name, width: $width, row: row!($($row)*) }),*]
+/// Passes the texts to a macro, in the order in which they are validated: what is given in brackets,
+/// and then of each text its name here and in [`Texts`](crate::Texts), its width in columns, and the
+/// row that begins with it, if there is one.
+macro_rules! header_texts {
+    ($then:ident $($given:tt)*) => {
+        $then! {
+            [$($given)*]
+            RunBy run_by 20
+                (b"PGM / RUN BY / DATE", b"rtcm2rinex          ", [RunBy, Date], true);
+            Date date 20 ();
+            Comment comment 60 (b"COMMENT", b"", [Comment], false);
+            Marker marker 60 (b"MARKER NAME", b"", [Marker], true);
+            MarkerNumber marker_number 20 (b"MARKER NUMBER", b"", [MarkerNumber], false);
+            MarkerType marker_type 20 (b"MARKER TYPE", b"", [MarkerType], true);
+            Observer observer 20 (b"OBSERVER / AGENCY", b"", [Observer, Agency], true);
+            Agency agency 40 ();
+            RecNumber rec_number 20
+                (b"REC # / TYPE / VERS", b"", [RecNumber, RecType, RecVersion], true);
+            RecType rec_type 20 ();
+            RecVersion rec_version 20 ();
+            AntNumber ant_number 20 (b"ANT # / TYPE", b"", [AntNumber, AntType], true);
+            AntType ant_type 20 ();
+        }
     };
 }
 
-/// The texts, in the order in which they are validated.
-const FIELDS: &[Field] = fields! {
-    "run_by", 20, (b"PGM / RUN BY / DATE", b"rtcm2rinex          ", [RunBy, Date], true);
-    "date", 20, ();
-    "comment", 60, (b"COMMENT", b"", [Comment], false);
-    "marker", 60, (b"MARKER NAME", b"", [Marker], true);
-    "marker_number", 20, (b"MARKER NUMBER", b"", [MarkerNumber], false);
-    "marker_type", 20, (b"MARKER TYPE", b"", [MarkerType], true);
-    "observer", 20, (b"OBSERVER / AGENCY", b"", [Observer, Agency], true);
-    "agency", 40, ();
-    "rec_number", 20, (b"REC # / TYPE / VERS", b"", [RecNumber, RecType, RecVersion], true);
-    "rec_type", 20, ();
-    "rec_version", 20, ();
-    "ant_number", 20, (b"ANT # / TYPE", b"", [AntNumber, AntType], true);
-    "ant_type", 20, ();
-};
+pub(crate) use header_texts;
+
+/// Returns the table of the texts.
+macro_rules! fields {
+    ([] $($field:ident $name:ident $width:literal ($($row:tt)*);)*) => {
+        &[$(Field { name: stringify!($name), width: $width, row: row!($($row)*) }),*]
+    };
+}
+
+const FIELDS: &[Field] = header_texts!(fields);
+
+/// Returns all fields.
+macro_rules! all_fields {
+    ([] $($field:ident $name:ident $width:literal ($($row:tt)*);)*) => {
+        [$($field),*]
+    };
+}
 
 impl HeaderField {
     /// All fields, in the order in which they are validated.
-    pub const ALL: [HeaderField; FIELDS.len()] = [
-        RunBy,
-        Date,
-        Comment,
-        Marker,
-        MarkerNumber,
-        MarkerType,
-        Observer,
-        Agency,
-        RecNumber,
-        RecType,
-        RecVersion,
-        AntNumber,
-        AntType,
-    ];
+    pub const ALL: [HeaderField; FIELDS.len()] = header_texts!(all_fields);
 
     /// Returns the width of the text, in columns: 20, 40 or 60.
     pub fn width(self) -> usize

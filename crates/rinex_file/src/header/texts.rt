@@ -1,5 +1,5 @@
 //! The texts of a header.
-ghost use Rattle.std.specs.Prelude.{◌≡◌, ◌≤◌, [], length, set, replicate, None, IfOk, OnOk};
+ghost use Rattle.std.specs.Prelude.{◌≡◌, ◌≤◌, [], length, set, replicate, IfOk, OnOk};
 ghost use Rattle.std.specs.Result.{result_err};
 ghost use Rattle.std.specs.List.{list_all};
 ghost use Rattle.rinex_file.specs.Blanks.{trimmed};
@@ -10,7 +10,7 @@ ghost use Rattle.rinex_file.specs.FileValues.{AreTexts};
 ghost use Rattle.rinex_columns.specs.Limits.{content_columns};
 
 use crate::header::fault::HeadFault;
-use crate::header::fields::HeaderField;
+use crate::header::fields::{HeaderField, header_texts};
 use crate::write::satellite::trimmed_len;
 use arrayvec::ArrayVec;
 use rinex_columns::{CONTENT_COLUMNS, put};
@@ -73,26 +73,21 @@ fn is_printable(text: &[u8]) -> bool
     text.iter().all(|b| *b >= 0x20 && *b <= 0x7E)
 }
 
+/// Returns the text of a field.
+macro_rules! text_in {
+    ([$texts:ident, $of:ident] $($field:ident $name:ident $width:literal ($($row:tt)*);)*) => {
+        match $of {
+            $(HeaderField::$field => $texts.$name,)*
+        }
+    };
+}
+
 impl<'a> Texts<'a> {
     /// Returns the text of a field.
     fn of(&self, field: HeaderField) -> &'a str
         ensures { result.now ≡ text_of (lists_of self.now) field }
     {
-        match field {
-            HeaderField::RunBy => self.run_by,
-            HeaderField::Date => self.date,
-            HeaderField::Comment => self.comment,
-            HeaderField::Marker => self.marker,
-            HeaderField::MarkerNumber => self.marker_number,
-            HeaderField::MarkerType => self.marker_type,
-            HeaderField::Observer => self.observer,
-            HeaderField::Agency => self.agency,
-            HeaderField::RecNumber => self.rec_number,
-            HeaderField::RecType => self.rec_type,
-            HeaderField::RecVersion => self.rec_version,
-            HeaderField::AntNumber => self.ant_number,
-            HeaderField::AntType => self.ant_type,
-        }
+        header_texts!(text_in self, field)
     }
 }
 
@@ -105,7 +100,7 @@ impl HeaderTexts {
     /// [`HeadFault::NotPrintable`] if it has a byte outside 0x20 to 0x7E, otherwise
     /// [`HeadFault::TooLong`] if it has more bytes than columns.
     pub fn new(texts: &Texts) -> Result<HeaderTexts, HeadFault>
-        ensures fault { result_err result ≡ first_fault (lists_of texts.now) None fields }
+        ensures fault { result_err result ≡ first_fault (lists_of texts.now) fields }
         ensures texts { IfOk result (λ t. t ≡ trimmed_texts (lists_of texts.now)) }
     {
         let mut taken = HeaderTexts::blank();

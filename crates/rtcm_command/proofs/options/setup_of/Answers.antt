@@ -22,7 +22,7 @@ so May d (Err e) h = tt
 changed : {T D E : Type 0} (Q : D → E → Type 0) (r : Result T D) (s : Result T E) (f : E) → MatchResult r (λ x. s ≡ Ok x) (λ e. IsErrAnd s (Q e)) → s ≡ Err f → IsErrAnd r (λ e. Q e f)
 changed Q r s f cases is = grind arith
 
-plan_refused : (options : List Row) (r : Result PlanValue PlanFault) (f : CommandFault) → texts.first_fault (texts_set options) None texts.fields ≡ None → IsDefined (HasSignal (plan_texts options)) (plan_set options) r → IsErrAnd r (λ e. f ≡ faults.Plan e) → HasSetupFault options f
+plan_refused : (options : List Row) (r : Result PlanValue PlanFault) (f : CommandFault) → texts.first_fault (texts_set options) texts.fields ≡ None → IsDefined (HasSignal (plan_texts options)) (plan_set options) r → IsErrAnd r (λ e. f ≡ faults.Plan e) → HasSetupFault options f
 plan_refused options (Err e) f none defined is = subst (HasSetupFault options) (sym is) (none, defined)
 plan_refused options (Ok p) f none defined is = grind arith
 
