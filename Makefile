@@ -21,7 +21,7 @@ DATE := "20240204 000001 UTC"
 
 PREFIX ?= /usr/local
 EXAMPLES = $(PREFIX)/share/doc/rtcm2rinex/examples
-# the scripts that a unit runs, also on a machine without documents
+# the scripts that a unit runs and what they read, also on a machine without documents
 RUN = $(PREFIX)/share/rtcm2rinex
 
 # The prover's allocator returns memory to the kernel that it soon needs again; keeping it makes checks faster.
@@ -69,8 +69,8 @@ install:
 	install -m 644 docs/rtcm2rinex.1 $(DESTDIR)$(PREFIX)/share/man/man1/rtcm2rinex.1
 	install -m 644 docs/rtcm2rinex.bash $(DESTDIR)$(PREFIX)/share/bash-completion/completions/rtcm2rinex
 	install -d $(DESTDIR)$(RUN) $(DESTDIR)$(EXAMPLES)/systemd
-	install -m 644 examples/day.sh examples/days.sh $(DESTDIR)$(RUN)
-	install -m 644 examples/*.sh $(DESTDIR)$(EXAMPLES)
+	install -m 644 examples/day.sh examples/day-lacks.awk examples/days.sh $(DESTDIR)$(RUN)
+	install -m 644 examples/*.sh examples/*.awk $(DESTDIR)$(EXAMPLES)
 	install -m 644 examples/systemd/* $(DESTDIR)$(EXAMPLES)/systemd
 
 read-back: build
