@@ -84,12 +84,12 @@ several_weeks() {
     case $1 in *SeveralWeeks*) echo "${1##*SeveralWeeks }" ;; esac
 }
 
-# For awk, of the lines of `show --all`: whether one is of an MSM4 to MSM7, and those of GLONASS and BeiDou.
+# For awk, of a line of `show --all`: whether it is of an MSM4 to MSM7, and its time of the week in ms. Times of BeiDou
+# are 14 seconds less than GPS time, those of GLONASS are of Moscow, without leap seconds.
 # shellcheck disable=SC2016 # the fields of awk
 msm='
     function is_msm() { return $2 ~ /^1(07|08|09|10|11|12)[4-7]$/ && NF == 8 }
-    function is_glonass() { return $2 ~ /^108/ }
-    function is_beidou() { return $2 ~ /^112/ }'
+    function gps_time(leap) { return $4 + ($2 ~ /^112/ ? 14000 : $2 ~ /^108/ ? 1000 * leap - 10800000 : 0) }'
 
 # ---- names and options
 
@@ -170,10 +170,7 @@ is_log() {
 begin_of() {
     for log; do ! is_log "$log" || plain "$log" 2> /dev/null; done | rtcm2rinex show --all 2> /dev/null |
         awk -v weekday="$weekday" "$msm"'
-            is_msm() {
-                print ($4 - (is_glonass() ? 10800000 : 0) - weekday * 86400000 + 907200000) % 604800000
-                exit
-            }'
+            is_msm() { print (gps_time(18) - weekday * 86400000 + 907200000) % 604800000; exit }'
 }
 # Calls a function with the logs of a day. One without a time of the day is before those that have one, which a logger
 # wrote afterwards, unless it begins over a minute later, as it wrote them before: two loggers begin a day together.
@@ -365,8 +362,7 @@ lost_bytes() {
 
 # Prints how many messages are lost. Logs that overlap repeat messages, which are counted as late. Lost is a message of
 # the day and of an earlier time than one before it, if it comes for the first time: of several of its number and time
-# those with other numbers of satellites, signals and cells are told apart, and others aren't. Times of BeiDou are 14
-# seconds less than GPS time, those of GLONASS are of Moscow, without leap seconds.
+# those with other numbers of satellites, signals and cells are told apart, and others aren't.
 late_messages() {
     case $report in *" late 0 "*) echo 0 && return ;; esac
     offset=${plan##*--leap-seconds }
@@ -375,7 +371,7 @@ late_messages() {
         -v week=604800000 -v day=86400000 "$msm"'
         own != "" && $3 != own { next }
         is_msm() && !seen[$2, $3, $4, $5, $6, $7, $8]++ {
-            time = $4 + (is_beidou() ? 14000 : is_glonass() ? 1000 * leap - 10800000 : 0)
+            time = gps_time(leap)
             back = (last - time + 2 * week) % week
             is_late = started++ && back > 0 && back < week / 2
             if (!is_late) last = time

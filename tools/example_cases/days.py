@@ -109,6 +109,13 @@ def try_layouts(room: Room) -> Outcomes:
     for name, first, end in (("", 0, EPOCHS + 1), ("-000000", -1, 1200), ("-110000", 1320, EPOCHS + 1)):
         room.write(f"raw/{STATION}/{DAY}{name}.rtcm3", stream_of([*day_messages(DAY, first, end)]))
     yield "the logs of two loggers", says(room) and room.epochs(MADE) == day_times()
+    # that of the day begins 65 seconds later, by a message of BeiDou, whose time is 14 seconds less
+    clear(room)
+    beidou = messages_of([at(DAY) + 35_000], Form({"C": 4}, {"C": (2,)}))[1:]
+    room.write(LOG, stream_of([*beidou, *day_messages(DAY, 2)]))
+    hours = [*day_messages(DAY, -1, 2), *beidou, *day_messages(DAY, 2, 1440)]
+    room.write(f"raw/{STATION}/{DAY}-000000.rtcm3", stream_of(hours))
+    yield "the begin of a log by BeiDou", says(room) and room.epochs(MADE) == day_times()
 
 
 def try_left(room: Room) -> Outcomes:
