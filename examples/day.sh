@@ -30,8 +30,8 @@ scripts=$(CDPATH='' cd -- "$(dirname -- "$0")" && pwd)
 #   prepare_files       made: the file; kept: the files beside it, without their endings; part, note, raw, raw_before,
 #                       raw_after: temporary files
 #   read_header         header_options: one a line; wanted: --station=..; leap, channels: the values of two options
-#   collect_logs        the day's own logs in `raw`; count: how many; left_out: names of those of another week; own: the
-#                       plan of `raw`, or why it has none
+#   collect_logs        the day's own logs in `raw`; count: how many; left_out: names of those of another week; found:
+#                       how many both are; own: the plan of `raw`, or why it has none
 #   choose_logs_beside  earlier, later: raw_before and raw_after, if the file is also made of these ends of the logs
 #                       beside the day; previous: the signals of the latest day before; position: that of `own`; ends:
 #                       the plan of the end of `raw`, or why it has none
@@ -189,6 +189,7 @@ with_logs() {
 take_logs() {
     for log; do
         is_log "$log" || continue
+        found=$((found + 1))
         errors=$(plain "$log" 2>&1 > "$note") || say "no file: $errors"
         asked=$(plan_of_day < "$note") || :
         case $asked in
@@ -203,7 +204,7 @@ take_logs() {
     done
 }
 collect_logs() {
-    folder=raw/$station count=0 left_out=''
+    folder=raw/$station found=0 count=0 left_out=''
     test ! -d "$folder" || { test -r "$folder" && test -x "$folder"; } || say "no file: $folder is not readable"
     with_logs take_logs "$day"
     test "$count" -gt 0 || test -z "$left_out" || say "no file: $asked"
@@ -326,7 +327,6 @@ convert_logs() {
 # ---- what the day has, and what it lacks
 
 # By the number of logs days.sh knows that some came later.
-# shellcheck disable=SC2086 # names of logs
 count_values() {
     quality=$(rtcm2rinex quality < "$part")
     number=${wanted#--station=}
@@ -335,7 +335,7 @@ count_values() {
         awk '$2 !~ /^10(07|08|33)$/ && NF > 5 { print $3; exit }')
     signals=$(echo "$quality" | grep '^signal ') || :
     signals="$signals
-logs $(set -f && set -- $left_out && echo $((count + $#)))
+logs $found
 station ${number:-unknown} position ${position:-none}"
 }
 

@@ -309,6 +309,11 @@ def try_weeks(room: Room) -> Outcomes:
             room.write(f"raw/{STATION}/{DAY}-{name}.rtcm3", stream_of(log))
         said = f": left out, as their ephemerides have another week: {DAY}-114000.rtcm3; 2800 of 2880 epochs, 1 gaps, "
         yield f"a log of another week by {number}", says(room, said) and len(room.epochs(MADE)) == 2800
+        # days.sh compares the number of logs, also of names with a blank
+        name = f"raw/{STATION}/{DAY}-114000"
+        (room.folder / f"{name}.rtcm3").rename(room.folder / f"{name} of Sunday.rtcm3")
+        is_said = says(room, said.replace("114000", "114000 of Sunday"))
+        yield f"the logs by {number}", is_said and "\nlogs 3\n" in room.text(f"obs/{STATION}/{DAY}.signals")
 
 
 def try_stations(room: Room) -> Outcomes:
