@@ -4,10 +4,12 @@
 # mean strength of each signal. Times are GPS time, in hours of the first day.
 #
 # A column of the pictures is a period of SECONDS, a divisor of a day; by default the shortest of which there are at
-# most 400. A gap is one by `rtcm2rinex check --gaps`, at the smallest step between epochs.
+# most 400. A gap is one by `rtcm2rinex check --gaps`, at the smallest step between epochs. The data are made by
+# picture-data.awk, which is in the folder of this script.
 set -eu
 : "${2:?usage: picture.sh OBS NAME [SECONDS]}"
 obs=$1 name=$2 every=${3-} part=$2.$$.part
+scripts=$(CDPATH='' cd -- "$(dirname -- "$0")" && pwd)
 # some awks read and print decimals with the comma of the locale
 export LC_ALL=C
 # it fails here if gzip does, whose status a pipe doesn't have
@@ -31,93 +33,8 @@ whole=$(ask quality)
 periods=$(ask quality --every "$every")
 
 # the data and what depends on them, as a program for gnuplot
-data=$(printf '%s\n' "$whole" "$periods" "$gaps" | awk -v every="$every" -v step="$step" '
-    $1 == "gap" { froms[++holes] = seconds($2 " " $3) + step; tos[holes] = seconds($4 " " $5) }
-    $1 == "signal" && $13 > 0 { signals[++lines] = $2 " " $3 }
-    $1 == "satellite" { satellites[++rows] = $2 }
-    $1 ~ /T/ {
-        at = seconds($1)
-        if (!columns) { day = substr($1, 1, 10); midnight = at - at % 86400 }
-        x = at - midnight
-        if (!columns || x != column[columns]) column[++columns] = x
-        cells[x, $2] += $11 * $17
-        strengths[x, $2] += $11
-        lost[x, $2] += $13
-        signal = substr($2, 1, 1) " " $3
-        sums[x, signal] += $11 * $17
-        values[x, signal] += $11
-    }
-    END {
-        # a block without a point is an error
-        print "$gaps << EOD\nNaN NaN"
-        # of half a column at least, to be seen
-        for (n = 1; n <= holes; n++)
-            print froms[n] - midnight, max(tos[n], froms[n] + every / 2) - midnight
-        print "EOD"
-        print "$cells << EOD"
-        for (n = 1; n <= rows; n++)
-            for (i = 1; i <= columns; i++)
-                if ((key = column[i] SUBSEP satellites[n]) in cells)
-                    print column[i], n, (strengths[key] ? cells[key] / strengths[key] : 0)
-        print "EOD"
-        print "$lost << EOD\nNaN NaN"
-        for (n = 1; n <= rows; n++)
-            for (i = 1; i <= columns; i++)
-                if (lost[column[i], satellites[n]]) print column[i] + every / 2, n
-        print "EOD"
-        print "$strength << EOD"
-        low = 100
-        for (n = 1; n <= lines; n++) {
-            print "\"" signals[n] "\""
-            # a line ends at a period without a value
-            for (i = 1; i <= columns; i++) {
-                key = column[i] SUBSEP signals[n]
-                if (i > 1 && column[i] > column[i - 1] + every || !values[key]) print ""
-                if (!values[key]) continue
-                mean = sums[key] / values[key]
-                print column[i] + every / 2, mean
-                low = min(low, mean)
-                high = max(high, mean)
-            }
-            print "\n"
-        }
-        print "EOD"
-
-        # a day as a whole, or the part that the file has
-        begin = column[1]
-        end = column[columns] + every
-        if (end <= 86400 && end - begin > 43200) { begin = 0; end = 86400 }
-        count = split("1 2 5 10 15 30 60 120 300 600 900 1800 3600 7200 10800 14400 21600 43200 86400", steps, " ")
-        for (i = 1; i < count && steps[i] < (end - begin) / 13; i++);
-        format = steps[i] % 3600 == 0 ? "%tH" : steps[i] % 60 == 0 ? "%tH:%tM" : "%tH:%tM:%tS"
-        print "set xrange [" begin ":" end "]"
-        print "set xtics time format \"" format "\" " steps[i]
-        print "set xlabel \"GPS time from " day " 0 h\""
-        print "every = " every "; period = \"" every " s\""
-        print "rows = " rows
-        print "lines = " lines + 0
-        print "low = " int(low) - 1
-        print "high = " int(high) + 2
-        # the satellites of many rows are named at both sides by turns
-        sides = rows > 60 ? 2 : 1
-        print "set ytics ()" (sides == 2 ? "; set y2tics ()" : "")
-        for (n = 1; n <= rows; n++) {
-            tick = "(\"" satellites[n] "\" " n ")"
-            print "set " (n % sides ? "y2tics" : "ytics") " add " tick
-            if (n > 1 && substr(satellites[n], 1, 1) != substr(satellites[n - 1], 1, 1))
-                print "set arrow from graph 0, first " n - 0.5 " to graph 1, first " n - 0.5 " nohead lc \"#808080\""
-        }
-    }
-    function min(one, other) { return one < other ? one : other }
-    function max(one, other) { return one > other ? one : other }
-    function seconds(time,   year, month, days) {
-        year = substr(time, 1, 4)
-        month = substr(time, 6, 2) - 3
-        if (month < 0) { year--; month += 12 }
-        days = 365 * year + int(year / 4) - int(year / 100) + int(year / 400) + int((153 * month + 2) / 5)
-        days += substr(time, 9, 2)
-        return 86400 * days + 3600 * substr(time, 12, 2) + 60 * substr(time, 15, 2) + substr(time, 18)
-    }')
+data=$(printf '%s\n' "$whole" "$periods" "$gaps" |
+    awk -v every="$every" -v step="$step" -f "$scripts/picture-data.awk")
 
 # gnuplot doesn't fail where its output does, as on a full disk: a picture has its name when it is whole.
 trap 'rm -f -- "$part-satellites.png" "$part-strength.png"' EXIT
