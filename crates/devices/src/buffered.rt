@@ -103,6 +103,7 @@ impl<W: Deliver> Write for Buffered<W> {
         ensures stays { StaysFailed result self.old self.new }
         ensures room { self.old.has_failed ≡ false → length self.old.waiting < buffer_bytes
             → result ≡ Ok (min (length buf.now) (buffer_bytes - length self.old.waiting)) }
+        ensures some { IfOk result (λ n. 0 < length buf.now → 0 < n) }
     {
         if self.failed || self.bytes.len() == BUFFER_BYTES {
             self.write_out()?;
