@@ -77,11 +77,11 @@ first_gaps o w w2 v es is (more, split) part =
 pub gaps_refused : {R W : Type 0} (r : EpochReader) (o : CheckOptions) (d d2 : Devices R W) (w1 : Writer W) (fault : FileFault) (v : FileValue) → IsFileValue v → length (file_lines v) ≤ most_lines
     → (w1.device.failures ≡ d.writer.device.failures) × IsDelivered d.writer w1 → ReadsGaps r (Err fault) o.complete (record d { writer = w1 }) d2
     → IfSome d.reader.unread (λ input. input ≡ file_text v → IsCheckedOr o v (Err fault) d.writer.written d2.writer.written)
-gaps_refused r o d d2 w1 (File e) v is few kept (es, stops, printed, failures) = IfSome_then d.reader.unread (stops.1 v is few) (λ input h same. refused o v e _ _ (h same))
+gaps_refused r o d d2 w1 (File e) v is few kept (es, stops, printed, failures, inside) = IfSome_then d.reader.unread (stops.1 v is few) (λ input h same. refused o v e _ _ (h same))
 gaps_refused r o d d2 w1 (OtherDay k) v is few kept (es, line, printed, fine) =
     IfSome_then d.reader.unread line
     (λ input h same all. let (t, out, inside, at) = h in let (e, time, (more, split)) = at.only v is same in not_inside o.complete es more e time out (subst (λ (l : List Stamped). AreInside o.complete (times_in l)) split all))
-gaps_refused r o d d2 w1 Write v is few kept (es, n, asked, first, part, fine) =
+gaps_refused r o d d2 w1 Write v is few kept (es, n, asked, first, part, fine, inside) =
     let later = printed_later {A = ⊤} {w = d.writer} Write (Err Write) w1 d2.writer kept refl (refl, part) in
     IfSome_then d.reader.unread first (λ input f same. first_gaps o _ _ v es is (f.only v is same) later.ends.1.1)
 

@@ -34,13 +34,13 @@ abbrev pub IsOtherDay : Option Completeness → List Stamped → (k : ℕ) → L
 IsOtherDay complete es k input = (t : ℕ) × (is_inside complete t ≡ false) × AreInside complete (times_in es)
     × IsEpochLine es t k input
 
--- A file isn't accepted for this reason: the gaps of the epochs before it were written, and nothing waits in the writer.
--- At a failed read these are all epochs in the bytes that were read. Or the writer failed, before anything was read, in
--- the gaps of the first epochs if they are asked for, or in the output of a file.
+-- A file isn't accepted for this reason: the gaps of the epochs before it were written, which are inside of the window,
+-- and nothing waits in the writer. At a failed read these are all epochs in the bytes that were read. Or the writer
+-- failed, before anything was read, in the gaps of the first epochs if they are asked for, or in the output of a file.
 abbrev pub StopsCheck : {R W : Type 0} → CheckOptions → (d d' : Devices R W) → FileFault → Type 0
 StopsCheck o d d' (faults.File e) =
     (es : List Stamped) × IfSome d.reader.unread (λ input. ExplainsFault input e × AreEpochsBefore es e input)
-    × (e ≡ reading.Read → AreEpochsRead es d.reader.unread d'.reader.unread)
+    × (e ≡ reading.Read → AreEpochsRead es d.reader.unread d'.reader.unread) × AreInside o.complete (times_in es)
     × Appends d.writer.written d'.writer.written (gaps_if o.complete (times_in es)) × (d'.writer.waiting ≡ [])
 StopsCheck o d d' (faults.OtherDay k) =
     (es : List Stamped) × IfSome d.reader.unread (IsOtherDay o.complete es k)
@@ -48,6 +48,7 @@ StopsCheck o d d' (faults.OtherDay k) =
 StopsCheck o d d' faults.Write =
     IsUnread d d'
     ⊎ ((es : List Stamped) × (n : ℕ) × (is_some o.complete ≡ true) × IfSome d.reader.unread (AreFirstEpochs es n)
+    × AreInside o.complete (times_in es)
     × AppendsPrefix d.writer.written d'.writer.written (gaps_if o.complete (times_in es)))
     ⊎ IsFileWith o (AppendsPrefix d.writer.written d'.writer.written) d.reader.unread
 

@@ -41,6 +41,7 @@ ReadsGaps r (Err (faults.File e)) complete d d' =
     (es : List Stamped) × StopsReading es d.reader.unread d'.reader.unread e
     × PrintsText (gaps_if complete (times_in es)) d.writer d'.writer
     × ReaderFailures (culprit (faults.File e)) d.reader.device.failures d'.reader.device.failures
+    × AreInside complete (times_in es)
 ReadsGaps r (Err (faults.OtherDay k)) complete d d' =
     (es : List Stamped) × IfSome d.reader.unread (IsOtherDay complete es k)
     × PrintsText (gaps_if complete (times_in es)) d.writer d'.writer
@@ -48,7 +49,7 @@ ReadsGaps r (Err (faults.OtherDay k)) complete d d' =
 ReadsGaps r (Err faults.Write) complete d d' =
     (es : List Stamped) × (n : ℕ) × (is_some complete ≡ true) × IfSome d.reader.unread (AreFirstEpochs es n)
     × PrintsPart (gaps_if complete (times_in es)) d.writer d'.writer
-    × (d'.reader.device.failures ≡ d.reader.device.failures)
+    × (d'.reader.device.failures ≡ d.reader.device.failures) × AreInside complete (times_in es)
 
 -- what is written at the end of a file, after the gaps before and between its epochs
 abbrev pub IsEndOutput : CheckOptions → FileValue → EpochTimes → List ℕ → Type 0

@@ -46,7 +46,7 @@ returns-in_err-print_gap-in-Ok-Epoch g c =
     let d2 = both c.finish.new.reader c.print_gap.new.writer in (
       passed c.from_residual.result _ (λ r. ReadsGaps c.finish.new.self r c.args.complete.now d d2) c.from_residual.ensures.1
           (subst (λ (f : FileFault). ReadsGaps c.finish.new.self (Err f) c.args.complete.now d d2) (sym write)
-          (es ++ e ∷ [], c.finish.new.self.count, rw c.in_err-print_gap-in-Ok-Epoch.was at c.print_gap.ensures.ends, first, text, (more_read (more_read inv.reads c.in-Ok-Epoch.ensures.reads) c.in-Ok.ensures.reads).same)),
+          (es ++ e ∷ [], c.finish.new.self.count, rw c.in_err-print_gap-in-Ok-Epoch.was at c.print_gap.ensures.ends, first, text, (more_read (more_read inv.reads c.in-Ok-Epoch.ensures.reads) c.in-Ok.ensures.reads).same, inside_more c.args.complete.now es e inside (same ∙ start) (sym c.is_inside.ensures ∙ c.if-not-is_inside.false))),
       leaves_more _ _ _ (leaves_more _ _ _ c.loop-before.invariant.reads.left c.in-Ok-Epoch.ensures.reads.left) c.in-Ok.ensures.reads.left,
     )
 
@@ -72,7 +72,7 @@ pub returns-in-Err : goal.returns-in-Err
 returns-in-Err g c =
     let inv = c.loop-before.invariant in
     let (es, read, printed, counts, inside) = inv.read in (
-      (es, c.in-Err.ensures.epochs es _ read, printed, reader_failed (File c.in-Err.fault) (none_read _ _) (file_read {B = ⊤} inv.reads c.in-Err.ensures.reads)),
+      (es, c.in-Err.ensures.epochs es _ read, printed, reader_failed (File c.in-Err.fault) (none_read _ _) (file_read {B = ⊤} inv.reads c.in-Err.ensures.reads), inside),
       leaves_more _ _ _ c.loop-before.invariant.reads.left c.in-Err.ensures.reads.left,
     )
 
@@ -81,6 +81,6 @@ returns-in-Err-finish g c =
     let inv = c.loop-before.invariant in
     let (es, read, printed, counts, inside) = inv.read in
     let (start, before, part, line, counted, kept) = begins_is c.loop-before.file c.begin.new.self es _ (g.R.Read.remaining c.begin.new.reader.inner) c.in-Ok-Epoch.field-0-is (c.in-Ok-Epoch.ensures.epochs es _ read) in (
-      (es, c.in-Err-finish.ensures.rows es _ _ part, printed, reader_failed (File c.in-Err-finish.fault) (none_read _ _) (file_read {B = ⊤} (more_read inv.reads c.in-Ok-Epoch.ensures.reads) c.in-Err-finish.ensures.reads)),
+      (es, c.in-Err-finish.ensures.rows es _ _ part, printed, reader_failed (File c.in-Err-finish.fault) (none_read _ _) (file_read {B = ⊤} (more_read inv.reads c.in-Ok-Epoch.ensures.reads) c.in-Err-finish.ensures.reads), inside),
       leaves_more _ _ _ (leaves_more _ _ _ c.loop-before.invariant.reads.left c.in-Ok-Epoch.ensures.reads.left) c.in-Err-finish.ensures.reads.left,
     )
