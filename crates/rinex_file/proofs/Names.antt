@@ -28,7 +28,7 @@ pub use Rattle.memchr.specs.Find.{IsFirstByte, is_byte}
 pub use Rattle.devices.proofs.PrintingLaws.{unmapped}
 pub use Rattle.devices.proofs.WritingLaws.{HasWrittenBut, all_written, more_written, none_written, part_written}
 pub use Rattle.rtcm_bits.specs.Prefix.{IsPrefix}
-pub use Rattle.rinex_file.specs.Accepted.{AreBegunWith, AreEpochsRead, AreFirstEpochs, HasPlan, IsEpochLine, IsFaultAfter}
+pub use Rattle.rinex_file.specs.Accepted.{AreBegunWith, AreEpochsRead, AreFirstEpochs, AreWholeBefore, AreWholeWith, HasPlan, IsEpochLine, IsFaultAfter}
 pub use Rattle.rinex_file.specs.Begun.{AreBegun, IsEpochBegun, IsHeaderBegun, IsEventBegun, part_lines, whole_lines, IsShown, StartsAt}
 unfoldable pub use Rattle.rinex_file.specs.Blanks.{trimmed}
 pub use Rattle.rinex_file.specs.Blanks.{IsEnded, before_cut, filled_to}

@@ -4,7 +4,7 @@ use Rattle.std.specs.Io.KnownBytes.{Consumes}
 use Rattle.rtcm_bits.specs.Prefix.{IsPrefix}
 use Rattle.rinex_file.specs.Begun.{IsHeaderBegun, IsBetweenEpochs, IsEventBegun, IsEpochBegun}
 use Rattle.gnss_obs.specs.Values.{PlanValue}
-use Rattle.rinex_file.specs.Exact.{AreFirstLines, HasHeader, IsLine, most_lines}
+use Rattle.rinex_file.specs.Exact.{AreFirstLines, HasHeader, IsAfter, IsLine, most_lines}
 use Rattle.rinex_file.specs.File.{file_text}
 use Rattle.rinex_file.specs.FileValues.{IsFileValue}
 use Rattle.rinex_columns.specs.Numbers.{joined}
@@ -14,12 +14,16 @@ use Rattle.rinex_file.specs.declared.read.fault.ReadFault.{ReadFault}
 use Rattle.rinex_file.specs.declared.read.fault.ReadFault.TheVariants.{Memory, Read, BadHeader, BadEpoch, BadEvent}
 use Rattle.rinex_file.specs.declared.read.fault.ReadFault.TheVariants.{BadSatellite, CutShort, TooLong}
 
--- lines that a file may begin with, and their whole epochs
-abbrev pub AreBegunWith : List Stamped → List (List ℕ) → Type 0
-AreBegunWith es lines =
+-- lines that a file may begin with, without a part of an epoch, and their epochs
+abbrev pub AreWholeWith : List Stamped → List (List ℕ) → Type 0
+AreWholeWith es lines =
     ((es ≡ []) × IsHeaderBegun lines) ⊎ ((b : IsBetweenEpochs lines) × (b.es ≡ es))
     ⊎ ((b : IsEventBegun 1 lines) × (b.es ≡ es)) ⊎ ((b : IsEventBegun 2 lines) × (b.es ≡ es))
-    ⊎ ((b : IsEventBegun 3 lines) × (b.es ≡ es)) ⊎ ((b : IsEpochBegun lines) × (b.es ≡ es))
+    ⊎ ((b : IsEventBegun 3 lines) × (b.es ≡ es))
+
+-- lines that a file may begin with, and their whole epochs
+abbrev pub AreBegunWith : List Stamped → List (List ℕ) → Type 0
+AreBegunWith es lines = AreWholeWith es lines ⊎ ((b : IsEpochBegun lines) × (b.es ≡ es))
 
 -- the first n lines of the input are such lines, and each file value with this text begins with their epochs
 pub record AreFirstEpochs (es : List Stamped) (n : ℕ) (input : List ℕ) : Type 0 where
@@ -68,3 +72,7 @@ IsFaultAfter TooLong n = n ≡ most_lines
 -- the epochs in the lines before the fault; none if memory runs out
 abbrev pub AreEpochsBefore : List Stamped → ReadFault → List ℕ → Type 0
 AreEpochsBefore es fault input = (n : ℕ) × IsFaultAfter fault n × AreFirstEpochs es n input × (fault ≡ Memory → es ≡ [])
+
+-- the lines before the fault have no part of an epoch, and these epochs; at a failed read it may be any lines
+abbrev pub AreWholeBefore : List Stamped → ReadFault → List ℕ → Type 0
+AreWholeBefore es fault input = (n : ℕ) × IsFaultAfter fault n × IsAfter (AreWholeWith es) input (n + 1)

@@ -1,5 +1,5 @@
 -- The lines of gaps, with one time more.
-use Rattle.rinex_inspect.proofs.Names.{Device, ReadsPrefix, ReaderFailures, culprit, common_steps, EpochReader, NextEpoch, BeginsEpoch, ReadFault, IsSummaryRead, AreInside, is_inside, All-head, All-tail, false, true, min, reduce, File, OtherDay, Write, longer_part, printed_after, printed_later, CheckOptions, Completeness, CountsMissing, EndsCheck, IsCompleteness, IsEndOutput, IsOutput, IsSummary, all_gaps_if, gap_with, gaps_if, inr, missing_with, times_in, ⊤, AppendsPrefix, AreTimes, AreTimesOrNone, EpochTimes, FileValue, IfSome, IsCheckedOr, IsFileValue, check_line, complete_if, IfSome_then, IsDelivered, ReadsGaps, append_assoc, file_lines, file_text, length, most_lines, steps_of, times_if, ◌≡◌, ◌∙◌, ◌+◌, ◌<◌, ◌≤◌, ◌∷◌, ◌++◌, [], ap, arith, refl, subst, sym, ℕ, List, Option, Devices, Writer, EndsPrinting, Err, FileSummary, FileFault, IsPrefix, Ok, PrintsText, Result, Stamped, map, time_stamped, map-append, ◌^◌}
+use Rattle.rinex_inspect.proofs.Names.{Appends, HaveFailedBy, Device, ReadsPrefix, ReaderFailures, culprit, common_steps, EpochReader, NextEpoch, BeginsEpoch, ReadFault, IsSummaryRead, AreInside, is_inside, All-head, All-tail, false, true, min, reduce, File, OtherDay, Write, longer_part, printed_after, printed_later, CheckOptions, Completeness, CountsMissing, EndsCheck, IsCompleteness, IsEndOutput, IsOutput, IsSummary, all_gaps_if, gap_with, gaps_if, inr, missing_with, times_in, ⊤, AppendsPrefix, AreTimes, AreTimesOrNone, EpochTimes, FileValue, IfSome, IsCheckedOr, IsFileValue, check_line, complete_if, IfSome_then, IsDelivered, ReadsGaps, append_assoc, file_lines, file_text, length, most_lines, steps_of, times_if, ◌≡◌, ◌∙◌, ◌+◌, ◌<◌, ◌≤◌, ◌∷◌, ◌++◌, [], ap, arith, refl, subst, sym, ℕ, List, Option, Devices, Writer, EndsPrinting, Err, FileSummary, FileFault, IsPrefix, Ok, PrintsText, Result, Stamped, map, time_stamped, map-append, ◌^◌}
 use Rattle.rinex_file.proofs.ReaderLaws.{HasReadOn, fault_read}
 use Rattle.rinex_file.specs.declared.read.fault.ReadFault.TheVariants as reading
 use Rattle.rinex_inspect.proofs.CheckLemmas.{none_written, refused}
@@ -77,7 +77,7 @@ first_gaps o w w2 v es is (more, split) part =
 pub gaps_refused : {R W : Type 0} (r : EpochReader) (o : CheckOptions) (d d2 : Devices R W) (w1 : Writer W) (fault : FileFault) (v : FileValue) → IsFileValue v → length (file_lines v) ≤ most_lines
     → (w1.device.failures ≡ d.writer.device.failures) × IsDelivered d.writer w1 → ReadsGaps r (Err fault) o.complete (record d { writer = w1 }) d2
     → IfSome d.reader.unread (λ input. input ≡ file_text v → IsCheckedOr o v (Err fault) d.writer.written d2.writer.written)
-gaps_refused r o d d2 w1 (File e) v is few kept (es, stops, printed, failures, inside) = IfSome_then d.reader.unread (stops.1 v is few) (λ input h same. refused o v e _ _ (h same))
+gaps_refused r o d d2 w1 (File e) v is few kept (es, stops, printed, failures, inside, next) = IfSome_then d.reader.unread (stops.1 v is few) (λ input h same. refused o v e _ _ (h same))
 gaps_refused r o d d2 w1 (OtherDay k) v is few kept (es, line, printed, fine) =
     IfSome_then d.reader.unread line
     (λ input h same all. let (t, out, inside, at) = h in let (e, time, (more, split)) = at.only v is same in not_inside o.complete es more e time out (subst (λ (l : List Stamped). AreInside o.complete (times_in l)) split all))
@@ -85,7 +85,19 @@ gaps_refused r o d d2 w1 Write v is few kept (es, n, asked, first, part, fine, i
     let later = printed_later {A = ⊤} {w = d.writer} Write (Err Write) w1 d2.writer kept refl (refl, part) in
     IfSome_then d.reader.unread first (λ input f same. first_gaps o _ _ v es is (f.only v is same) later.ends.1.1)
 
+-- a fault of reading after the gaps
+file_ended : {R W : Type 0} (e : ReadFault) (d d2 : Devices R W) (w1 : Writer W) (text : List ℕ) → (w1.device.failures ≡ d.writer.device.failures) × IsDelivered d.writer w1 → PrintsText text w1 d2.writer
+    → ReaderFailures (culprit (File e)) d.reader.device.failures d2.reader.device.failures → HaveFailedBy (culprit (File e)) d d2 × Appends d.writer.written d2.writer.written text × (d2.writer.waiting ≡ [])
+file_ended e d d2 w1 text kept printed failures = grind (arith, common_steps, printed_later, none_written)
+
+-- what follows from both
+both_known : (a : Option (List ℕ)) (P Q R : List ℕ → Type 0) → ((input : List ℕ) → P input → Q input → R input) → IfSome a P → IfSome a Q → IfSome a R
+both_known a P Q R h p q = grind (arith, common_steps)
+
 -- the end of the command at such a fault
 pub gaps_stopped : {R W : Type 0} (r : EpochReader) (o : CheckOptions) (d d2 : Devices R W) (w1 : Writer W) (fault : FileFault) → (w1.device.failures ≡ d.writer.device.failures) × IsDelivered d.writer w1
     → ReadsGaps r (Err fault) o.complete (record d { writer = w1 }) d2 → EndsCheck {A = ⊤} o (Err fault) d d2
+gaps_stopped r o d d2 w1 (File e) kept (es, stops, printed, failures, inside, next) =
+    let (failed, text, sent) = file_ended e d d2 w1 (gaps_if o.complete (times_in es)) kept printed failures in
+    (failed, (es, both_known d.reader.unread _ _ _ (λ input why begun. (why.0, why.1, begun)) stops.0 next, stops.2, inside, text, sent))
 gaps_stopped r o d d2 w1 fault kept h = grind (arith, common_steps, printed_later, none_written)

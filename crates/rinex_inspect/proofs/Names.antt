@@ -1,7 +1,7 @@
 -- The names that proofs cite, passed on from one place. Declares nothing.
 pub use Rattle.devices.proofs.PrintingLaws.{Printed, kept_appends, longer_part, printed_after, printed_later}
 pub use Rattle.devices.specs.Device.{AppendsPrefix, Device, HasFailed}
-pub use Rattle.devices.specs.Devices.{Devices, ReaderFailures, Writer, WriterFailures, devices_of, writer_of}
+pub use Rattle.devices.specs.Devices.{HaveFailedBy, Devices, ReaderFailures, Writer, WriterFailures, devices_of, writer_of}
 pub use Rattle.devices.specs.Printing.{EndsPrinting, IsDelivered, PrintsPart, PrintsText}
 pub use Rattle.gnss_obs.proofs.PlanLaws.{few_below, length_indices}
 pub use Rattle.gnss_obs.specs.Plans.{below}

@@ -4,12 +4,13 @@ use Rattle.std.specs.Prelude.{⊤}
 use Rattle.std.specs.Io.KnownBytes.{Appends, Keeps}
 use Rattle.devices.specs.Device.{AppendsPrefix}
 use Rattle.devices.specs.Devices.{Devices, Ends}
-use Rattle.rinex_file.specs.Accepted.{AreEpochsBefore, AreEpochsRead, AreFirstEpochs, IsEpochLine}
+use Rattle.rinex_file.specs.Accepted.{AreEpochsBefore, AreEpochsRead, AreFirstEpochs, AreWholeBefore, IsEpochLine}
 use Rattle.rinex_file.specs.Blocks.{LeavesRest}
 use Rattle.rinex_file.specs.Exact.{ExplainsFault, most_lines}
 use Rattle.rinex_file.specs.File.{file_text, file_lines}
 use Rattle.rinex_file.specs.FileValues.{IsFileValue}
 use Rattle.rinex_file.specs.Value.{FileValue, Stamped}
+use Rattle.rinex_file.specs.declared.read.fault.ReadFault.{ReadFault}
 use Rattle.rinex_file.specs.declared.read.fault.ReadFault.TheVariants as reading
 use Rattle.rinex_inspect.specs.CheckOutput.{IsOutput, gaps_if, times_in}
 use Rattle.devices.specs.Printing.{IsUnread}
@@ -34,12 +35,19 @@ abbrev pub IsOtherDay : Option Completeness → List Stamped → (k : ℕ) → L
 IsOtherDay complete es k input = (t : ℕ) × (is_inside complete t ≡ false) × AreInside complete (times_in es)
     × IsEpochLine es t k input
 
+-- between these epochs and the fault no epoch was begun, or one that is inside
+abbrev pub IsNextInside : Option Completeness → List Stamped → ReadFault → List ℕ → Type 0
+IsNextInside complete es e input =
+    AreWholeBefore es e input ⊎ ((t n : ℕ) × (is_inside complete t ≡ true) × IsEpochLine es t n input)
+
 -- A file isn't accepted for this reason: the gaps of the epochs before it were written, which are inside of the window,
 -- and nothing waits in the writer. At a failed read these are all epochs in the bytes that were read. Or the writer
 -- failed, before anything was read, in the gaps of the first epochs if they are asked for, or in the output of a file.
 abbrev pub StopsCheck : {R W : Type 0} → CheckOptions → (d d' : Devices R W) → FileFault → Type 0
 StopsCheck o d d' (faults.File e) =
-    (es : List Stamped) × IfSome d.reader.unread (λ input. ExplainsFault input e × AreEpochsBefore es e input)
+    (es : List Stamped)
+    × IfSome d.reader.unread
+    (λ input. ExplainsFault input e × AreEpochsBefore es e input × IsNextInside o.complete es e input)
     × (e ≡ reading.Read → AreEpochsRead es d.reader.unread d'.reader.unread) × AreInside o.complete (times_in es)
     × Appends d.writer.written d'.writer.written (gaps_if o.complete (times_in es)) × (d'.writer.waiting ≡ [])
 StopsCheck o d d' (faults.OtherDay k) =

@@ -2,10 +2,10 @@
 use Rattle.rinex_file.proofs.Writing.Sent.{joined-append}
 use Rattle.rinex_file.specs.declared.read.fault.ReadFault.TheVariants.{Memory}
 use Rattle.rinex_file.proofs.FileLines.{lines_are_lines, lines_are_short}
-use Rattle.rinex_file.proofs.Reading.Header.{begin_whole, begun_with, row_expected}
+use Rattle.rinex_file.proofs.Reading.Header.{begin_whole, begun_with, row_expected, whole_with}
 use Rattle.rinex_file.proofs.Reading.Epochs.{sound_open}
 use Rattle.rinex_file.proofs.Reading.Lines.{both_said, only_faults, said_of, consumed, none_ahead, splits}
-use Rattle.rinex_file.proofs.Names.{AddsAt, with_last_read, Known, HasReadRowsAt, arith, common_steps, append_assoc, ReadsNextLine, Ok, ReadFault, ExpectsHeader, ExpectsRow, HasReadRows, ExplainsFault, IsFaultAfter, StopsReading, HasPlan, IsEpochLine, System, IsSatelliteRow, IsStamped, AreRead, All, All-head, All-tail, plan_of, planned_in, with_read, Read, ◌∙◌, header_lines, Memory, HasHeader, shown_text, ◌≡◌, sym, ap, refl, subst, ℕ, List, [], ◌∷◌, ◌++◌, Option, IfSome, Expected, Header, Epoch, Satellite, ParserState, EpochReader, Progress, History, HasRead, HasReadEpochs, IsSoundAt, IsAt, IsSound, HasLinesLeft, progress_at, SatelliteRow, Stamped, FileValue, stamped, joined, Result, Bool, ReadsRow, NextEpoch, BeginsEpoch, most_lines, ◌≤◌, file_lines, AreEpochsRead, AreFirstEpochs, Consumes, IsPrefix, false, has, prepend_known}
+use Rattle.rinex_file.proofs.Names.{AddsAt, with_last_read, Known, HasReadRowsAt, arith, common_steps, append_assoc, ReadsNextLine, Ok, ReadFault, ExpectsHeader, ExpectsRow, HasReadRows, ExplainsFault, IsFaultAfter, StopsReading, HasPlan, IsEpochLine, System, IsSatelliteRow, IsStamped, AreRead, All, All-head, All-tail, plan_of, planned_in, with_read, Read, ◌∙◌, header_lines, Memory, HasHeader, shown_text, ◌≡◌, sym, ap, refl, subst, ℕ, List, [], ◌∷◌, ◌++◌, Option, IfSome, Expected, Header, Epoch, Satellite, ParserState, EpochReader, Progress, History, HasRead, HasReadEpochs, IsSoundAt, IsAt, IsSound, HasLinesLeft, progress_at, SatelliteRow, Stamped, FileValue, stamped, joined, Result, Bool, ReadsRow, NextEpoch, BeginsEpoch, most_lines, ◌≤◌, file_lines, AreEpochsRead, AreFirstEpochs, AreWholeBefore, ◌+◌, Consumes, IsPrefix, false, has, prepend_known}
 
 -- a file that continues after what was read begins with the epochs that were read
 at_left : (s : Progress) (expected : Expected) (v : FileValue) (left : List (List ℕ)) → IsSoundAt s expected → IsAt s expected v left → IsPrefix s.epochs v.epochs
@@ -143,6 +143,23 @@ stopped {r} {h} {input} left fault read why number memory failed = (
   λ v is few. only_faults lines_are_lines lines_are_short input fault v why is few,
   failed,
 )
+
+-- the fault follows whole epochs
+pub whole_before : {r : EpochReader} {es : List Stamped} {input left : Option (List ℕ)} (fault : ReadFault) → HasReadEpochs r es input left → IsFaultAfter fault r.count → IfSome input (AreWholeBefore es fault)
+whole_before {r} {es} {input} {left} fault (read, outside) number =
+    let s = progress_at r.parser_state (record { epochs = es; rows = [] }) in
+    let t = read.taken in
+    consumed input _ (joined t.lines) (AreWholeBefore es fault) t.taken (λ rest. (
+      r.count,
+      number,
+      record {
+        lines = t.lines;
+        rest = rest;
+        first = record { are = t.are; first = refl };
+        count = ap (λ (n : ℕ). n + 1) t.many;
+        are = whole_with s s.expected t.lines read.history.sound t.history.are outside;
+      },
+    ))
 
 -- the input begins with a header if a satellite was read, and its plan was read
 pub plan_read : {r : EpochReader} {h : History} {input left : Option (List ℕ)} → HasRead r h input left → (h.epochs ≡ [] → h.rows ≡ [] → ⊥) → IfSome input (HasPlan (plan_of r))

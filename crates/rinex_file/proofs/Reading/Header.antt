@@ -5,7 +5,7 @@ use Rattle.rinex_file.proofs.HeaderRows.Some.{some_shown}
 use Rattle.rinex_file.proofs.HeaderRows.End.{zero_values}
 use Rattle.rinex_file.proofs.Reading.Lines.{consumed}
 use Rattle.rinex_file.proofs.Reading.Epochs.{lines_with, lines_are, sound_open, sound_between, at_expected, file_value}
-use Rattle.rinex_file.proofs.Names.{joined, ExpectsHeader, ExpectsRow, IsEpochBegun, true, file_text, is_of_types, HasHeader, IsHeaderBegun, shown_text, append_assoc, MayRunOut, common_steps, Has, GoesOn, shown_of, arith, ◌≡◌, ◌∙◌, sym, ap, refl, ℕ, zero, suc, ◌+◌, ◌<◌, pos, List, [], ◌∷◌, ◌++◌, length, Option, IfSome, lit<, subst, take, drop, append-nil, inl, inr, AreBegunWith, None, Some, map, flat_map, All-head, All-nil, length-map, StationValues, ParserState, Expected, Header, Epoch, EventPosition, EventHeight, EventEpoch, Satellite, IsChange, IsFileValue, AreBegun, IsEventBegun, header_lines, whole_lines, AreBefore, IsExpectedAt, Progress, IsPosition, shown_with, lines_after, stamped, Known, Shown, IsShown, IsHeadAt, file_with, StartsAt, IsInHeader, IsAt, IsAtEpoch, IsInEvent, HasLinesLeft, RefusesLine, IsSound, IsSoundAt, IsEventExpected, AreLinesAt, values_now, AreRead, AreLinesOf, History, FollowsHistory, progress_at, GoesOnWithLine, ShowsLine, IsTaken, SatelliteRow, Stamped, FileValue, satellite_line, event_lines, stamped_lines, file_lines, lines_of_parts, GoesTo, EndsHeader, NoneGoesOn}
+use Rattle.rinex_file.proofs.Names.{joined, ExpectsHeader, ExpectsRow, IsEpochBegun, true, file_text, is_of_types, HasHeader, IsHeaderBegun, shown_text, append_assoc, MayRunOut, common_steps, Has, GoesOn, shown_of, arith, ◌≡◌, ◌∙◌, sym, ap, refl, ℕ, zero, suc, ◌+◌, ◌<◌, pos, List, [], ◌∷◌, ◌++◌, length, Option, IfSome, lit<, subst, take, drop, append-nil, inl, inr, AreBegunWith, AreWholeWith, None, Some, map, flat_map, All-head, All-nil, length-map, StationValues, ParserState, Expected, Header, Epoch, EventPosition, EventHeight, EventEpoch, Satellite, IsChange, IsFileValue, AreBegun, IsEventBegun, header_lines, whole_lines, AreBefore, IsExpectedAt, Progress, IsPosition, shown_with, lines_after, stamped, Known, Shown, IsShown, IsHeadAt, file_with, StartsAt, IsInHeader, IsAt, IsAtEpoch, IsInEvent, HasLinesLeft, RefusesLine, IsSound, IsSoundAt, IsEventExpected, AreLinesAt, values_now, AreRead, AreLinesOf, History, FollowsHistory, progress_at, GoesOnWithLine, ShowsLine, IsTaken, SatelliteRow, Stamped, FileValue, satellite_line, event_lines, stamped_lines, file_lines, lines_of_parts, GoesTo, EndsHeader, NoneGoesOn}
 
 -- ---- station values of a position that aren't these
 
@@ -56,15 +56,21 @@ are_before s (Satellite n) lines sound are = record {
   are = are;
 }
 
+-- the epochs that were read, if no satellite is expected
+pub whole_with : (s : Progress) (expected : Expected) (lines : List (List ℕ)) → IsSoundAt s expected → AreLinesAt s expected lines → (ExpectsRow expected → ⊥) → AreWholeWith s.epochs lines
+unfolding are_before event_before
+whole_with s (Header place) lines sound are outside = inl (sound.0, are_before s (Header place) lines sound are)
+whole_with s Epoch lines sound are outside = inr (inl (are_before s Epoch lines sound are, refl))
+whole_with s EventPosition lines sound are outside = inr (inr (inl (are_before s EventPosition lines sound are, refl)))
+whole_with s (EventHeight p) lines sound are outside = inr (inr (inr (inl (are_before s (EventHeight p) lines sound are, refl))))
+whole_with s (EventEpoch w) lines sound are outside = inr (inr (inr (inr (are_before s (EventEpoch w) lines sound are, refl))))
+whole_with s (Satellite n) lines sound are outside = absurd (outside tt)
+
 -- the same with the epochs that were read
 pub begun_with : (s : Progress) (expected : Expected) (lines : List (List ℕ)) → IsSoundAt s expected → AreLinesAt s expected lines → AreBegunWith s.epochs lines
 unfolding are_before event_before
-begun_with s (Header place) lines sound are = inl (sound.0, are_before s (Header place) lines sound are)
-begun_with s Epoch lines sound are = inr (inl (are_before s Epoch lines sound are, refl))
-begun_with s EventPosition lines sound are = inr (inr (inl (are_before s EventPosition lines sound are, refl)))
-begun_with s (EventHeight p) lines sound are = inr (inr (inr (inl (are_before s (EventHeight p) lines sound are, refl))))
-begun_with s (EventEpoch w) lines sound are = inr (inr (inr (inr (inl (are_before s (EventEpoch w) lines sound are, refl)))))
-begun_with s (Satellite n) lines sound are = inr (inr (inr (inr (inr (are_before s (Satellite n) lines sound are, refl)))))
+begun_with s (Satellite n) lines sound are = inr (are_before s (Satellite n) lines sound are, refl)
+begun_with s expected lines sound are = inl (whole_with s expected lines sound are (λ inside. inside))
 
 -- the line of an epoch was read, and lines of its satellites
 pub row_expected : (s : Progress) (expected : Expected) (lines : List (List ℕ)) → IsSoundAt s expected → AreLinesAt s expected lines → ExpectsRow expected

@@ -12,7 +12,7 @@ use Rattle.rinex_file.specs.declared.read.file.FileSummary.{FileSummary}
 use Rattle.rinex_file.specs.inner.Read.EpochSteps.{IsSummaryRead}
 use Rattle.rinex_file.specs.inner.Read.Steps.{StopsReading}
 use Rattle.rinex_inspect.specs.CheckOutput.{all_gaps_if, check_line, complete_if, gaps_if, times_if, times_in}
-use Rattle.rinex_inspect.specs.Checking.{IsOtherDay}
+use Rattle.rinex_inspect.specs.Checking.{IsNextInside, IsOtherDay}
 use Rattle.rinex_inspect.specs.Faults.{culprit}
 use Rattle.rinex_inspect.specs.Gaps.{AreInside, Completeness}
 use Rattle.rinex_inspect.specs.declared.check.CheckOptions.{CheckOptions}
@@ -41,7 +41,7 @@ ReadsGaps r (Err (faults.File e)) complete d d' =
     (es : List Stamped) × StopsReading es d.reader.unread d'.reader.unread e
     × PrintsText (gaps_if complete (times_in es)) d.writer d'.writer
     × ReaderFailures (culprit (faults.File e)) d.reader.device.failures d'.reader.device.failures
-    × AreInside complete (times_in es)
+    × AreInside complete (times_in es) × IfSome d.reader.unread (IsNextInside complete es e)
 ReadsGaps r (Err (faults.OtherDay k)) complete d d' =
     (es : List Stamped) × IfSome d.reader.unread (IsOtherDay complete es k)
     × PrintsText (gaps_if complete (times_in es)) d.writer d'.writer

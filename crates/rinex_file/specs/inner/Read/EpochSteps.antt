@@ -9,7 +9,7 @@ use Rattle.rinex_file.specs.declared.read.fault.ReadFault.{ReadFault}
 use Rattle.rinex_file.specs.declared.read.file.FileSummary.{FileSummary}
 use Rattle.rinex_file.specs.declared.read.parser_state.Expected.{Expected}
 use Rattle.rinex_file.specs.declared.read.parser_state.Expected.TheVariants.{Satellite}
-use Rattle.rinex_file.specs.Accepted.{AreFirstEpochs, IsEpochLine}
+use Rattle.rinex_file.specs.Accepted.{AreFirstEpochs, AreWholeBefore, IsEpochLine}
 use Rattle.rinex_file.specs.Counting.{IsSummary, IsTextWith}
 use Rattle.rinex_file.specs.Exact.{ExplainsStored, IfTextOfFile}
 use Rattle.rinex_file.specs.FileValues.{IsSatelliteRow, planned_in, time_stamped}
@@ -67,7 +67,8 @@ BeginsEpoch old new es input left (Ok (Epoch before time)) =
     × (old.count < new.count) × KeepsPlan old new es
 BeginsEpoch old new es input left (Ok (End s)) =
     IsTextWith (IsSummaryRead new es s) input × IfTextOfFile input (IsSummaryRead new es s) × KeepsPlan old new es
-BeginsEpoch old new es input left (Err fault) = StopsReading es input left fault
+BeginsEpoch old new es input left (Err fault) =
+    StopsReading es input left fault × IfSome input (AreWholeBefore es fault)
 
 -- an epoch with these satellites; and with one more
 abbrev pub with_rows : Stamped → List SatelliteRow → Stamped

@@ -10,7 +10,7 @@ use Rattle.rinex_columns.specs.Numbers.{joined}
 use Rattle.rinex_file.specs.Value.{FileValue, Stamped}
 use Rattle.rinex_file.specs.FileValues.{IsFileValue}
 use Rattle.rinex_file.specs.File.{file_text, file_lines}
-use Rattle.rinex_file.specs.Accepted.{AreEpochsBefore, AreEpochsRead}
+use Rattle.rinex_file.specs.Accepted.{AreEpochsBefore, AreEpochsRead, IsFaultAfter}
 use Rattle.rinex_file.specs.Exact.{ExplainsFault, IfTextOfFile, IsLine, IsNoFault, most_lines}
 use Rattle.rinex_file.specs.inner.Read.Progress.{Progress, file_with}
 use Rattle.rinex_file.specs.inner.Read.Sound.{HasReadLines}
@@ -68,7 +68,8 @@ ReadsNextLine old new h input left (Ok true) =
     × AddsAt old.parser_state.expected old.parser_state new.parser_state h after
 ReadsNextLine old new h input left (Ok false) =
     IsWhole new.parser_state h input × (old.parser_state.expected ≡ Epoch) × (new.parser_state ≡ old.parser_state)
-ReadsNextLine old new h input left (Err fault) = StopsReading h.epochs input left fault
+ReadsNextLine old new h input left (Err fault) =
+    StopsReading h.epochs input left fault × IsFaultAfter fault old.count
 
 -- for every history that was read, the reading continues with the next line
 abbrev pub GoesOnReading : (old : EpochReader) → Option (List ℕ) → (new : EpochReader) → Option (List ℕ)

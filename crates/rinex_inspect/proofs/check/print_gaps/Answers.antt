@@ -1,7 +1,7 @@
 use Rattle.rinex_file.proofs.ReaderLaws.{leaves_more, more_read, none_read}
 use Rattle.rinex_inspect.proofs.MissingLemmas.{none_missed, none_printed}
 use Rattle.rinex_inspect.proofs.GapLemmas.{begins_is, counted_more, inside_more, file_read, printed_more, reader_failed}
-use Rattle.rinex_inspect.proofs.Names.{◌<◌, ◌*◌, week, weeks, rules, File, ⊤, begun_in, IfSome_then, is_inside, true, All-nil, ◌≡◌, Appends, ◌∙◌, ◌++◌, ◌∷◌, [], arith, refl, subst, sym, Appends-nil, Err, FileFault, ReadsGaps, ℕ, passed, devices_of, writer_of}
+use Rattle.rinex_inspect.proofs.Names.{◌<◌, ◌*◌, week, weeks, rules, File, ⊤, begun_in, IfSome_then, is_inside, true, inl, inr, All-nil, ◌≡◌, Appends, ◌∙◌, ◌++◌, ◌∷◌, [], arith, refl, subst, sym, Appends-nil, Err, FileFault, ReadsGaps, ℕ, passed, devices_of, writer_of}
 use Rattle.rinex_inspect.proofs.check.print_gaps.Goals as goal
 
 pub loop-before-init : goal.loop-before-init
@@ -71,8 +71,9 @@ returns-in-Ok-End g c =
 pub returns-in-Err : goal.returns-in-Err
 returns-in-Err g c =
     let inv = c.loop-before.invariant in
-    let (es, read, printed, counts, inside) = inv.read in (
-      (es, c.in-Err.ensures.epochs es _ read, printed, reader_failed (File c.in-Err.fault) (none_read _ _) (file_read {B = ⊤} inv.reads c.in-Err.ensures.reads), inside),
+    let (es, read, printed, counts, inside) = inv.read in
+    let (stops, whole) = c.in-Err.ensures.epochs es _ read in (
+      (es, stops, printed, reader_failed (File c.in-Err.fault) (none_read _ _) (file_read {B = ⊤} inv.reads c.in-Err.ensures.reads), inside, IfSome_then (g.R.Read.remaining c.args.reader.now.inner) whole (λ input w. inl w)),
       leaves_more _ _ _ c.loop-before.invariant.reads.left c.in-Err.ensures.reads.left,
     )
 
@@ -81,6 +82,6 @@ returns-in-Err-finish g c =
     let inv = c.loop-before.invariant in
     let (es, read, printed, counts, inside) = inv.read in
     let (start, before, part, line, counted, kept) = begins_is c.loop-before.file c.begin.new.self es _ (g.R.Read.remaining c.begin.new.reader.inner) c.in-Ok-Epoch.field-0-is (c.in-Ok-Epoch.ensures.epochs es _ read) in (
-      (es, c.in-Err-finish.ensures.rows es _ _ part, printed, reader_failed (File c.in-Err-finish.fault) (none_read _ _) (file_read {B = ⊤} (more_read inv.reads c.in-Ok-Epoch.ensures.reads) c.in-Err-finish.ensures.reads), inside),
+      (es, c.in-Err-finish.ensures.rows es _ _ part, printed, reader_failed (File c.in-Err-finish.fault) (none_read _ _) (file_read {B = ⊤} (more_read inv.reads c.in-Ok-Epoch.ensures.reads) c.in-Err-finish.ensures.reads), inside, IfSome_then (g.R.Read.remaining c.args.reader.now.inner) line (λ input at. inr (c.in-Ok-Epoch.time, c.begin.new.self.count, sym c.is_inside.ensures ∙ c.if-not-is_inside.false, at))),
       leaves_more _ _ _ (leaves_more _ _ _ c.loop-before.invariant.reads.left c.in-Ok-Epoch.ensures.reads.left) c.in-Err-finish.ensures.reads.left,
     )

@@ -40,4 +40,4 @@ returns-in-Ok-End-clause-rates g c = λ es input read tables.
     (begins_is c.args.file.now c.begin.new.self es input (g.R.Read.remaining c.begin.new.reader.inner) c.in-Ok-End.field-0-is (c.in-Ok-End.ensures.epochs es input read))
 
 pub returns-in-Err-clause-rates : goal.returns-in-Err-clause-rates
-returns-in-Err-clause-rates g c = λ es input read tables. (c.in-Err.ensures.epochs es input read, refl)
+returns-in-Err-clause-rates g c = λ es input read tables. ((c.in-Err.ensures.epochs es input read).0, refl)

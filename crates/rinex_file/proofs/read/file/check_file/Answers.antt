@@ -42,13 +42,13 @@ pub returns-in_err-next_line-clause-fault : goal.returns-in_err-next_line-clause
 returns-in_err-next_line-clause-fault g c =
     let (h, read) = c.loop-file.invariant.read in
     let p = err_from_is_err_and c.from_residual.result c.from_residual.ensures.1 in
-    rw (p.1, p.2) (said_of (g.R.Read.remaining c.args.reader.now.inner) _ _ (λ bytes h. h.0) (c.in_err-next_line.ensures.goes h _ read).0)
+    rw (p.1, p.2) (said_of (g.R.Read.remaining c.args.reader.now.inner) _ _ (λ bytes h. h.0) (c.in_err-next_line.ensures.goes h _ read).0.0)
 
 pub returns-in_err-next_line-clause-only : goal.returns-in_err-next_line-clause-only
 returns-in_err-next_line-clause-only g c =
     let (h, read) = c.loop-file.invariant.read in
     let p = err_from_is_err_and c.from_residual.result c.from_residual.ensures.1 in
-    rw (p.1, p.2) (c.in_err-next_line.ensures.goes h _ read).1
+    rw (p.1, p.2) (c.in_err-next_line.ensures.goes h _ read).0.1
 
 pub returns-in_err-next_line-clause-reads : goal.returns-in_err-next_line-clause-reads
 returns-in_err-next_line-clause-reads g c = failed_read c.from_residual.result c.from_residual.ensures.1 c.loop-file.invariant.reads c.in_err-next_line.ensures.reads

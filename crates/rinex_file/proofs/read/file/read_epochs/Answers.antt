@@ -45,7 +45,7 @@ returns-in-End-clause-reads g c = fine_read _ (λ e. cc) (more_read c.loop-summa
 pub returns-in_err-begin-clause-epochs : goal.returns-in_err-begin-clause-epochs
 returns-in_err-begin-clause-epochs g c =
     let p = err_from_is_err_and c.from_residual.result c.from_residual.ensures.1 in
-    rw (p.1, p.2) (explained (c.in_err-begin.ensures.epochs _ _ c.loop-summary.invariant.read))
+    rw (p.1, p.2) (explained (c.in_err-begin.ensures.epochs _ _ c.loop-summary.invariant.read).0)
 
 pub returns-in_err-begin-clause-reads : goal.returns-in_err-begin-clause-reads
 returns-in_err-begin-clause-reads g c = failed_read c.from_residual.result c.from_residual.ensures.1 c.loop-summary.invariant.reads c.in_err-begin.ensures.reads

@@ -1,4 +1,4 @@
-use Rattle.rinex_file.proofs.Reading.Accepted.{epoch_begun, is_part, line_is, none_added}
+use Rattle.rinex_file.proofs.Reading.Accepted.{epoch_begun, is_part, line_is, none_added, whole_before}
 use Rattle.rinex_file.proofs.Reading.Header.{past_header}
 use Rattle.rinex_file.proofs.Reading.Summary.{ended, has_times, summed}
 use Rattle.rinex_file.proofs.Names.{failed_read, fine_read, more_read, Bool, IsTrue, ◌↔◌, true, false, ◌≡◌, ◌∙◌, ◌+◌, [], ℕ, List, Option, arith, ap, refl, subst, HasRead, HasReadEpochs, History, Known, ParserState, progress_at, ReadsNextLine, EpochReader, Stamped, Ok, err_from_is_err_and}
@@ -79,7 +79,9 @@ returns-clause-reads g c = fine_read _ (λ e. cc) (more_read c.loop-self.invaria
 pub returns-in_err-next_line-clause-epochs : goal.returns-in_err-next_line-clause-epochs
 returns-in_err-next_line-clause-epochs g c = λ es input before.
     let p = err_from_is_err_and c.from_residual.result c.from_residual.ensures.1 in
-    rw (p.1, p.2) (c.in_err-next_line.ensures.goes _ _ (c.loop-self.invariant.read es input before).0.0)
+    let (read, least, head) = c.loop-self.invariant.read es input before in
+    let (stops, number) = c.in_err-next_line.ensures.goes _ _ read.0 in
+    rw (p.1, p.2) (stops, whole_before _ read number)
 
 pub returns-in_err-next_line-clause-reads : goal.returns-in_err-next_line-clause-reads
 returns-in_err-next_line-clause-reads g c = failed_read c.from_residual.result c.from_residual.ensures.1 c.loop-self.invariant.reads c.in_err-next_line.ensures.reads

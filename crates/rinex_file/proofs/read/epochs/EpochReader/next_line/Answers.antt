@@ -10,8 +10,8 @@ use Rattle.rinex_file.proofs.read.epochs.EpochReader.next_line.Goals as goal
 
 -- a fault that is neither the reader's nor one of memory
 stops_at : {r : EpochReader} {h : History} {input before : Option (List ℕ)} (left : Option (List ℕ)) (fault : ReadFault) → HasRead r h input before → IfSome input (λ bytes. ExplainsFault bytes fault) → IsFaultAfter fault r.count → (fault ≡ Memory → ⊥)
-    → (fault ≡ Read → ⊥) → StopsReading h.epochs input left fault
-stops_at left fault read why number memory other = stopped left fault read why number (λ e. absurd (memory e)) (λ e. absurd (other e))
+    → (fault ≡ Read → ⊥) → StopsReading h.epochs input left fault × IsFaultAfter fault r.count
+stops_at left fault read why number memory other = (stopped left fault read why number (λ e. absurd (memory e)) (λ e. absurd (other e)), number)
 
 pub returns-in_default-clause-goes : goal.returns-in_default-clause-goes
 returns-in_default-clause-goes g c = λ h input read. stops_at _ _ read
@@ -92,8 +92,11 @@ unexplained : (input : Option (List ℕ)) → IfSome input (λ bytes. ⊤)
 unexplained input = grind arith
 
 pub returns-in-Failed-clause-goes : goal.returns-in-Failed-clause-goes
-returns-in-Failed-clause-goes g c = λ h input read. stopped _ Read read (unexplained input) tt (λ e. cc)
-    (λ e. epochs_read (g.R.Read.remaining c.next.new.reader.inner) c.next.new.self.line read c.in-Failed.ensures.taken.0 (c.in-Failed.ensures.failed refl) c.in-Failed.ensures.found.1)
+returns-in-Failed-clause-goes g c = λ h input read. (
+  stopped _ Read read (unexplained input) tt (λ e. cc)
+      (λ e. epochs_read (g.R.Read.remaining c.next.new.reader.inner) c.next.new.self.line read c.in-Failed.ensures.taken.0 (c.in-Failed.ensures.failed refl) c.in-Failed.ensures.found.1),
+  tt,
+)
 
 pub returns-clause-reads : goal.returns-clause-reads
 returns-clause-reads g c = fine_read _ (λ e. cc) (record { left = c.next.ensures.taken.1; same = c.in-Line.ensures.found.1 })
@@ -105,4 +108,4 @@ returns-in-Err-Memory-clause-goes g c = λ h input read.
     let may = subst (λ (r : Refusal). TakesLine c.args.self.now.parser_state c.take.new.self c.line.result.now (Err r)) c.in-Err-Memory.field-0-is c.in-Err-Memory.ensures in
     let (begun, types) = run_out s s.expected read.taken.lines c.line.result.now read.history.sound read.taken.history.are may in
     let why = at_types _ c.next.new.self.line read.taken c.in-Line.ensures.found.0 c.in-Line.ensures.taken.0 begun (sym (ap is_of_types c.line.ensures.line) ∙ types) in
-    stopped _ Memory read why tt (λ e. grind (arith, common_steps, may, no_epochs_yet)) (λ e. cc)
+    (stopped _ Memory read why tt (λ e. grind (arith, common_steps, may, no_epochs_yet)) (λ e. cc), tt)

@@ -15,7 +15,7 @@ row_or_fault : (old new : EpochReader) (es : List Stamped) (e : Stamped) (input 
     → ReadsNextLine old new (record { epochs = es; rows = e.rows }) input left r → ReadsRow old new es e input left r
 row_or_fault old new es e input before left (Ok true) inside part (after, read, counted, adds) = grind (arith, common_steps, row_planned, row_read old new es e input before left after inside part read adds)
 row_or_fault old new es e input before left (Ok false) inside part (whole, expected, same) = absurd (subst ExpectsRow expected inside)
-row_or_fault old new es e input before left (Err fault) inside part stops = stops
+row_or_fault old new es e input before left (Err fault) inside part stops = stops.0
 
 pub returns-clause-rows : goal.returns-clause-rows
 returns-clause-rows g c = λ es e input part.
