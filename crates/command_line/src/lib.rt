@@ -17,6 +17,7 @@
 
 mod cli;
 mod commands;
+pub mod laws;
 mod words;
 
 pub use cli::{VERSION, drop_matches, parse};

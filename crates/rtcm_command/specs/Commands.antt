@@ -18,7 +18,7 @@ use Rattle.rtcm_inspect.specs.StreamOutput.{EndsStream}
 use Rattle.rinex_inspect.specs.Checking.{EndsCheck}
 use Rattle.rinex_inspect.specs.Quality.{EndsQuality}
 use Rattle.rtcm_command.specs.Converting.{IsConverted, StopsConverting}
-use Rattle.command_line.specs.CommandLine.{SelectsCommand, FailsParsing}
+use Rattle.command_line.specs.CommandLine.{SelectsCommand, FailsParsing, version_line}
 use Rattle.command_line.specs.inner.CommandLine.{IsCommand}
 use Rattle.rtcm_command.specs.Devices.{culprit}
 use Rattle.command_faults.specs.ErrorLines.{error_line}
@@ -33,7 +33,6 @@ use Rattle.rinex_inspect.specs.declared.fault.FileFault.{FileFault}
 use Rattle.rinex_inspect.specs.Gaps.{Completeness}
 use Rattle.command_faults.specs.declared.fault.CommandFault.{CommandFault}
 use Rattle.command_faults.specs.declared.fault.CommandFault.TheVariants as faults
-use Rattle.command_line.specs.declared.cli.TheConstants.{VERSION}
 
 -- for the station that these options give, or for all stations
 abbrev pub OfStation : List Row → (Option ℕ → Type 0) → Type 0
@@ -107,7 +106,7 @@ abbrev pub HasCompleted : {R W E : Type 0} → List Text → (e e' : Writer E) �
 HasCompleted words e e' d d' =
     ((name : Text) × (options : List Row) × SelectsCommand words name options × AreFine d d'
     × HasDone name options e e' d d')
-    ⊎ (FailsParsing words DisplayVersion × (d'.reader ≡ d.reader) × PrintsText VERSION.now d.writer d'.writer
+    ⊎ (FailsParsing words DisplayVersion × (d'.reader ≡ d.reader) × PrintsText version_line d.writer d'.writer
     × (e' ≡ e))
 
 -- The command that the words ask for was stopped by a fault, or the writer failed in the output of the version, and the
@@ -118,7 +117,7 @@ HasStoppedEarly words e e' d d' =
     ((name : Text) × (options : List Row) × (fault : CommandFault) × SelectsCommand words name options
     × (fault_status fault ≡ 1) × HaveFailedBy (culprit fault) d d'
     × HasStopped name options d d' fault × PrintsLine (error_line fault) e e')
-    ⊎ (FailsParsing words DisplayVersion × (d'.reader ≡ d.reader) × PrintsPart VERSION.now d.writer d'.writer
+    ⊎ (FailsParsing words DisplayVersion × (d'.reader ≡ d.reader) × PrintsPart version_line d.writer d'.writer
     × PrintsLine (error_line (faults.Inspect inspect.Write)) e e')
     ⊎ (AreUntouched d d' × PrintsLine (error_line faults.Memory) e e')
 
@@ -126,7 +125,7 @@ HasStoppedEarly words e e' d d' =
 abbrev pub StopsPrinting : {W E : Type 0} → ErrorKind → (e e' : Writer E) → (w w' : Writer W) → Type 0
 StopsPrinting k e e' w w' =
     ((k ≡ OutOfMemory) × (w'.device ≡ w.device) × PrintsLine (error_line faults.Memory) e e')
-    ⊎ ((k ≡ DisplayVersion) × PrintsPart VERSION.now w w'
+    ⊎ ((k ≡ DisplayVersion) × PrintsPart version_line w w'
     × PrintsLine (error_line (faults.Inspect inspect.Write)) e e')
 
 -- what is printed of words that are refused: this text, or the line of `Memory` without one

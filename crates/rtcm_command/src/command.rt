@@ -13,7 +13,7 @@ ghost use Rattle.rtcm_command.specs.Commands.{HasStoppedEarly, HasCompleted, Sto
 ghost use Rattle.rtcm_command.specs.Devices.{Runs, of_file, of_inspection};
 ghost use Rattle.command_faults.specs.ErrorLines.{error_line, not_text_line};
 ghost use Rattle.devices.specs.Printing.{PrintsLine, PrintsSome, PrintsText};
-ghost use Rattle.command_line.specs.declared.cli.TheConstants.{VERSION};
+ghost use Rattle.command_line.specs.CommandLine.{version_line};
 ghost use Rattle.rtcm_command.specs.Converting.{EndsConverting};
 ghost use Rattle.rtcm_command.specs.SetupOptions.{options_of};
 
@@ -155,7 +155,7 @@ fn answer<W: Deliver, E: Deliver>(
 ) -> u8
     ensures status { result ≤ 2 }
     ensures good { result ≡ 0 → (kind_of error.now ≡ DisplayVersion)
-        × Writes W.contents W.waiting writer.old writer.new (PrintsText VERSION.now) × (faults.new ≡ faults.old) }
+        × Writes W.contents W.waiting writer.old writer.new (PrintsText version_line) × (faults.new ≡ faults.old) }
     ensures stopped { result ≡ 1 → Writes E.contents E.waiting faults.old faults.new (λ e e'.
         Writes W.contents W.waiting writer.old writer.new (StopsPrinting (kind_of error.now) e e')) }
     ensures refused { result ≡ 2 → (kind_of error.now ≢ DisplayVersion) × (kind_of error.now ≢ OutOfMemory)
@@ -163,6 +163,7 @@ fn answer<W: Deliver, E: Deliver>(
 {
     match error.kind() {
         ErrorKind::DisplayVersion => {
+            command_line::laws::version();
             let ended = print_text(VERSION.as_bytes(), writer, InspectFault::Write);
             exit_status(of_inspection(ended), faults)
         }
