@@ -42,7 +42,7 @@ pub use Rattle.rtcm_command.specs.Commands.{AreRefused, AreRefusedBy, EndsComman
 pub use Rattle.rtcm_command.specs.CompleteOptions.{IsCompleteBy, IsCompleteSet, IsWindowOf, complete_with, is_given, lacks_one, window_with}
 pub use Rattle.rtcm_command.specs.Converting.{EndsConverting, StopsConversion}
 pub use Rattle.rtcm_command.specs.Devices.{culprit, of_file, of_inspection}
-pub use Rattle.rtcm_command.specs.PrintedPlan.{ArePrintedWords, HaveValues, IsDatedAsPrinted, IsDatedAsSent, IsDatedIn, IsStartedAsFound, StartsAsFound, after_prefix, default_of, given, has_equals, leap_option, printed_words}
+pub use Rattle.rtcm_command.specs.PrintedPlan.{ArePrintedWords, HaveValues, IsDatedAsPrinted, IsDatedAsSent, IsDatedAt, IsStartedAsFound, StartsAsFound, after_prefix, default_of, given, has_equals, leap_option, printed_words}
 unfoldable pub use Rattle.rtcm_command.specs.Reports.{report_line}
 pub use Rattle.rtcm_command.specs.Reports.{counts_named}
 unfoldable pub use Rattle.rtcm_command.specs.SetupOptions.{plan_set}

@@ -1,5 +1,5 @@
 -- A conversion with the options that `options` prints for a stream.
-use Rattle.rtcm_command.proofs.Names.{common_steps, ◌+◌, ◌*◌, ◌/◌, nat_le, false, option_and_then, if◌then◌else◌, nat_lt, true, ◌||◌, suc, first_of, one_of, System, Glonass, name_of, tabulate, no_channels, is_nil, plan_of, with_channels, PlanValue, plan_with, planned_of, Forms, StationParts, Framed, is_always_decoded, is_decoded, set_of, channels_text, first_station, first_tow, options_line, IsWeekNear, first_week, is_no_week, codes_word, forms_had, had, plan_in, set_had, valued_in, IsDatedByStart, IsLeapFree, setup_value, ArePrintedWords, IsDatedAsPrinted, IsDatedAsSent, IsDatedIn, IsStartedAsFound, StartsAsFound, leap_option, IsPlanSet, ChannelsValue, IsNumberOf, IsNumberOr, IsStartSet, Row, Start, Week, not, usual_leap, Setup, StationValues, bytes_eq, channels_set, height_text, no_values, plan_set, position_text, text_set, values_set, option_map_or, ◌<◌, ◌≡◌, Bool, IfSome, List, None, Ok, Option, Result, Some, [], ap, ap₂, arith, codes, decimal, length, option_map, refl, subst, sym, unwrap_or, ℕ, ◌^◌, ◌∙◌}
+use Rattle.rtcm_command.proofs.Names.{common_steps, ◌+◌, ◌*◌, ◌/◌, nat_le, false, option_and_then, if◌then◌else◌, nat_lt, true, ◌||◌, suc, first_of, one_of, System, Glonass, name_of, tabulate, no_channels, is_nil, plan_of, with_channels, PlanValue, plan_with, planned_of, Forms, StationParts, Framed, is_always_decoded, is_decoded, set_of, channels_text, first_station, first_tow, options_line, IsWeekNear, first_week, is_no_week, codes_word, forms_had, had, plan_in, set_had, valued_in, IsDatedByStart, IsLeapFree, setup_value, ArePrintedWords, IsDatedAsPrinted, IsDatedAsSent, IsDatedAt, IsStartedAsFound, StartsAsFound, leap_option, IsPlanSet, ChannelsValue, IsNumberOf, IsNumberOr, IsStartSet, Row, Start, Week, not, usual_leap, Setup, StationValues, bytes_eq, channels_set, height_text, no_values, plan_set, position_text, text_set, values_set, option_map_or, ◌<◌, ◌≡◌, Bool, IfSome, List, None, Ok, Option, Result, Some, [], ap, ap₂, arith, codes, decimal, length, option_map, refl, subst, sym, unwrap_or, ℕ, ◌^◌, ◌∙◌}
 use Rattle.std.proofs.lemmas.Bool.{lt-ltb}
 use Rattle.std.proofs.lemmas.List.Sums.{count_by-le-length}
 use Rattle.gnss_obs.specs.Weeks.{week, weeks}
@@ -18,7 +18,7 @@ use Rattle.rtcm_inspect.specs.declared.first_two.FirstTwo.{FirstTwo}
 use Rattle.rtcm_inspect.specs.declared.first_two.FirstTwo.TheVariants.{One}
 use Rattle.rtcm_inspect.specs.declared.printed_week.WeekSource.{WeekSource}
 use Rattle.rtcm_inspect.specs.declared.printed_week.WeekSource.TheVariants.{Unprinted, Near, Ephemerides}
-use Rattle.rtcm_inspect.specs.SignalLaws.{AreReadAsPlan}
+use Rattle.rtcm_inspect.specs.SignalLaws.{AreReadAsPlan, HasFirstMsm}
 use Rattle.rtcm_inspect.specs.StreamChannels.{channels_in}
 use Rattle.rtcm_command.proofs.PrintedWordsLemmas.{AreAsPrinted, as_printed, channels_option, forms_text, signals_text}
 use Rattle.rtcm_command.specs.StationLaws.{AreChannelsSet, AreLeapSecondsRead, AreReadAsStation, AreZeroByDefault, IsStationRead, IsWeekRead}
@@ -153,6 +153,7 @@ started_as_found laws options source w leap wanted fs x are start =
 pub record DateLaws : Type 0 where
   pub free : IsLeapFree
   pub dated : IsDatedByStart
+  pub some : HasFirstMsm
   pub small : (leap : ℕ) (set : MsmSet) (wanted : Option ℕ) (fs : List Framed) (tow : ℕ) → first_tow leap set wanted fs ≡ Some tow → tow < week
 
 -- without GLONASS the leap seconds don't matter
@@ -161,24 +162,28 @@ same_first : IsLeapFree → (leap used : ℕ) (start : Start) (wanted : Option �
 same_first free leap used start wanted fs is = grind (arith, common_steps)
 
 -- the first time of a conversion that starts as found
-first_dated : DateLaws → (w leap : ℕ) (wanted : Option ℕ) (fs : List Framed) (x : Setup) → w < weeks → StartsAsFound x (Some w) (Some leap) wanted fs → IsDatedIn w leap x wanted fs
+first_dated : DateLaws → (w leap : ℕ) (wanted : Option ℕ) (fs : List Framed) (x : Setup) → w < weeks → StartsAsFound x (Some w) (Some leap) wanted fs → (tow : ℕ)
+    → first_tow leap (set_had wanted fs) wanted fs ≡ Some tow → IsDatedAt w tow leap x wanted fs
 first_dated laws w leap wanted fs x small found tow first =
     let is_week : is_no_week x.gatherer.start ≡ false = ap is_no_week found.week ∙ ap not (lt-ltb w weeks small) in
     let set : set_of x.gatherer.plan x.forms ≡ set_had wanted fs = ap₂ set_of found.plan found.forms in
     let tow_is : first_tow x.gatherer.leap_seconds (set_of x.gatherer.plan x.forms) x.gatherer.station fs ≡ Some tow =
-    ap₂ (λ (m : MsmSet) (o : Option ℕ). first_tow x.gatherer.leap_seconds m o fs) set found.station ∙ same_first laws.free leap x.gatherer.leap_seconds x.gatherer.start wanted fs found.leap_seconds ∙ first in
-    laws.dated (setup_value x).set (setup_value x).gatherer fs tow is_week (laws.small leap (set_had wanted fs) wanted fs tow first) tow_is
-    ∙ ap (λ (n : ℕ). Some (n * week + tow)) (ap (λ (s : Start). first_week s tow) found.week ∙ given w tow)
+    ap₂ (λ (m : MsmSet) (o : Option ℕ). first_tow x.gatherer.leap_seconds m o fs) set found.station ∙ same_first laws.free leap x.gatherer.leap_seconds x.gatherer.start wanted fs found.leap_seconds ∙ first in (
+      first,
+      laws.dated (setup_value x).set (setup_value x).gatherer fs tow is_week (laws.small leap (set_had wanted fs) wanted fs tow first) tow_is
+          ∙ ap (λ (n : ℕ). Some (n * week + tow)) (ap (λ (s : Start). first_week s tow) found.week ∙ given w tow),
+    )
 
 -- near a date
 week_of : (noon tow : ℕ) (w : Option ℕ) → IsWeekFor (Some noon) (Some tow) w → (n : ℕ) × (w ≡ Some n) × IsWeekNear noon tow n
 week_of noon tow w h = h
 
 pub dated_as_printed : ReadLaws → DateLaws → IsDatedAsPrinted
-dated_as_printed read laws options noon w leap wanted fs x are start tow first =
+dated_as_printed read laws options noon w leap wanted fs x are start =
+    let (tow, first) = laws.some (leap_at noon) wanted fs are.some in
     let (n, is, near) = week_of noon tow w (subst (λ (t : Option ℕ). IsWeekFor (Some noon) t w) first are.week.0) in
     let found : StartsAsFound x (Some n) (Some (leap_at noon)) wanted fs = subst2 is are.week.2 (started_as_found read options (Near noon) w leap wanted fs x are start) in
-    (n, near, first_dated laws n (leap_at noon) wanted fs x (near_small noon tow n near) found tow first)
+    (n, tow, is, near, first_dated laws n (leap_at noon) wanted fs x (near_small noon tow n near) found tow first)
   where
     subst2 : {n m : Option ℕ} → w ≡ n → leap ≡ m → StartsAsFound x w leap wanted fs → StartsAsFound x n m wanted fs
     subst2 {n} {m} e f h = subst (λ (o : Option ℕ). StartsAsFound x o m wanted fs) e (subst (λ (o : Option ℕ). StartsAsFound x w o wanted fs) f h)
@@ -190,10 +195,11 @@ one_week a b e = cc
 pub dated_as_sent : ReadLaws → DateLaws → IsDatedAsSent
 dated_as_sent read laws options d w leap wanted fs x are start one =
     let (e, is, week_is, leap_is) = are.week in
+    let (tow, first) = laws.some (leap_by wanted fs d) wanted fs are.some in
     let same : e ≡ d = one_week e d (sym is ∙ one) in
     let found : StartsAsFound x (Some (week_by wanted fs d)) (Some (leap_by wanted fs d)) wanted fs =
     subst2 (week_is ∙ ap (λ (n : ℕ). Some (week_by wanted fs n)) same) (leap_is ∙ ap (λ (n : ℕ). Some (leap_by wanted fs n)) same) (started_as_found read options Ephemerides w leap wanted fs x are start) in
-    first_dated laws (week_by wanted fs d) (leap_by wanted fs d) wanted fs x (within_last (time_in d (first_msm (leap_by wanted fs d) wanted fs))) found
+    (tow, first_dated laws (week_by wanted fs d) (leap_by wanted fs d) wanted fs x (within_last (time_in d (first_msm (leap_by wanted fs d) wanted fs))) found tow first)
   where
     subst2 : {n m : Option ℕ} → w ≡ n → leap ≡ m → StartsAsFound x w leap wanted fs → StartsAsFound x n m wanted fs
     subst2 {n} {m} e f h = subst (λ (o : Option ℕ). StartsAsFound x o m wanted fs) e (subst (λ (o : Option ℕ). StartsAsFound x w o wanted fs) f h)

@@ -12,6 +12,7 @@ use Rattle.gnss_obs.specs.Values.{PlanValue, no_values}
 use Rattle.gnss_obs.specs.Weeks.{week}
 use Rattle.rtcm_scan.specs.Frames.{Framed}
 use Rattle.obs_epoch.specs.Epochs.{values_from}
+use Rattle.obs_epoch.specs.NearWeek.{IsWeekNear}
 use Rattle.obs_epoch.specs.Sets.{is_decoded}
 use Rattle.obs_epoch.specs.declared.week.Start.{Start}
 use Rattle.obs_epoch.specs.Times.{timed}
@@ -32,7 +33,6 @@ use Rattle.rtcm_inspect.specs.Signals.{forms_had, plan_in, set_had, valued_in}
 use Rattle.rtcm_convert.specs.Converted.{messages_of}
 use Rattle.rtcm_convert.specs.SetupValues.{setup_value}
 use Rattle.rtcm_convert.specs.declared.setup.Setup.{Setup}
-use Rattle.rtcm_command.specs.NearOption.{StartsNear}
 use Rattle.rtcm_command.specs.SetupOptions.{IsSetupOf, text_set, usual_leap}
 
 -- ---- the options that words give
@@ -91,10 +91,10 @@ pub record StartsAsFound (x : Setup) (w leap wanted : Option ℕ) (fs : List Fra
   pub leap_seconds : x.gatherer.leap_seconds ≡ leap_option leap (plan_in wanted fs) x.gatherer.start
   pub initial : x.gatherer.initial ≡ option_map_or (λ s. values_from s 0) (first_station wanted fs) no_values
 
--- its first accepted message is the first MSM that it decodes, which has this time of week and is in this week
-abbrev pub IsDatedIn : (w : ℕ) → (leap : ℕ) → Setup → (wanted : Option ℕ) → List Framed → Type 0
-IsDatedIn w leap x wanted fs = (tow : ℕ) → first_tow leap (set_had wanted fs) wanted fs ≡ Some tow
-    → first_time (timed (setup_value x).gatherer (messages_of (setup_value x) fs)) ≡ Some (w * week + tow)
+-- its first accepted message is the first MSM that it decodes, which has this time of week, and is in this week
+abbrev pub IsDatedAt : (w tow leap : ℕ) → Setup → (wanted : Option ℕ) → List Framed → Type 0
+IsDatedAt w tow leap x wanted fs = (first_tow leap (set_had wanted fs) wanted fs ≡ Some tow)
+    × (first_time (timed (setup_value x).gatherer (messages_of (setup_value x) fs)) ≡ Some (w * week + tow))
 
 -- These are the week and the leap seconds that `options` prints, and the options are as printed.
 pub record AreOptionsPrinted (options : List Row) (source : WeekSource) (w leap wanted : Option ℕ)
@@ -115,14 +115,14 @@ abbrev pub IsStartedAsFound : Type 0
 IsStartedAsFound = (options : List Row) (source : WeekSource) (w leap wanted : Option ℕ) (fs : List Framed) (x : Setup)
     → AreOptionsPrinted options source w leap wanted fs → IsSetupOf options x → StartsAsFound x w leap wanted fs
 
--- in the week in which its first MSM is nearest to the noon of the date
+-- A week is printed: the one in which the first MSM is nearest to the noon of the date.
 abbrev pub IsDatedAsPrinted : Type 0
 IsDatedAsPrinted = (options : List Row) (noon : ℕ) (w leap wanted : Option ℕ) (fs : List Framed) (x : Setup)
     → AreOptionsPrinted options (Near noon) w leap wanted fs → IsSetupOf options x
-    → StartsNear noon (first_tow (leap_at noon) (set_had wanted fs) wanted fs) x fs
+    → (n tow : ℕ) × (w ≡ Some n) × IsWeekNear noon tow n × IsDatedAt n tow (leap_at noon) x wanted fs
 
--- by the ephemerides, which all say that GPS week d was counted as week 0
+-- By the ephemerides, which all say that GPS week d was counted as week 0, it is the one that they say.
 abbrev pub IsDatedAsSent : Type 0
 IsDatedAsSent = (options : List Row) (d : ℕ) (w leap wanted : Option ℕ) (fs : List Framed) (x : Setup)
     → AreOptionsPrinted options Ephemerides w leap wanted fs → IsSetupOf options x → first_two (whole_in wanted fs) ≡ One d
-    → IsDatedIn (week_by wanted fs d) (leap_by wanted fs d) x wanted fs
+    → (tow : ℕ) × IsDatedAt (week_by wanted fs d) tow (leap_by wanted fs d) x wanted fs

@@ -9,6 +9,7 @@ mod TowLemmas
 mod SaidLemmas
 mod PrintedWeekLemmas
 mod FirstLemmas
+mod FirstMsmLemmas
 mod CountingLemmas
 mod SignalLemmas
 mod ValuedLemmas

@@ -1,6 +1,6 @@
 -- The plan of the signals printed for a stream has a column for each value. Of a GLONASS satellite without a channel a
 -- conversion with it has no phase and no Doppler shift, and it loses no other value.
-use Rattle.std.specs.Prelude.{◌≡◌, ℕ, ◌+◌, ◌<◌, ◌≤◌, ◌&&◌, Bool, true, not, List, [], length, map, Option, is_some, Ok}
+use Rattle.std.specs.Prelude.{◌≡◌, ℕ, ◌+◌, ◌<◌, ◌≤◌, ◌&&◌, Bool, true, not, List, [], length, map, Option, is_some, Ok, Some}
 use Rattle.std.specs.Option.{option_map_or}
 use Rattle.std.specs.List.{All, count_by}
 use Rattle.gnss_system.specs.Satellites.{Satellite}
@@ -21,7 +21,8 @@ use Rattle.gnss_obs.specs.Values.{plan_with}
 use Rattle.rtcm_msg.specs.Decoding.{message_with}
 use Rattle.rtcm_msg.specs.declared.message.Message.{Message}
 use Rattle.rtcm_inspect.specs.Inspected.{inspected, inspected_in}
-use Rattle.rtcm_inspect.specs.Signals.{valued_in, valued_of, had, plan_in, forms_had, codes_word}
+use Rattle.rtcm_inspect.specs.Signals.{valued_in, valued_of, had, plan_in, forms_had, set_had, codes_word}
+use Rattle.rtcm_inspect.specs.WeekLaws.{first_tow}
 
 -- the cells counted as skipped of the message of a frame after these are no more than those for which the message has
 -- no value, and those of unlisted satellites or signals
@@ -56,6 +57,11 @@ LosesNone = (s : GatherSetup) (fs : List Framed) → s.plan ≡ plan_in s.statio
 abbrev pub SkipsNoValue : Type 0
 SkipsNoValue = (s : GatherSetup) (fs : List Framed) → s.plan ≡ plan_in s.station fs
     → (set : MsmSet) (earlier : List Timed) → All (SkipsOnly set s earlier) fs
+
+-- if a cell of these frames counts, a conversion with this plan and these forms decodes an MSM, which has a time of week
+abbrev pub HasFirstMsm : Type 0
+HasFirstMsm = (leap : ℕ) (wanted : Option ℕ) (fs : List Framed) → 0 < length (valued_in wanted fs)
+    → (tow : ℕ) × (first_tow leap (set_had wanted fs) wanted fs ≡ Some tow)
 
 -- ---- the values of a cell: with a carrier the phase and the Doppler shift are those of the message
 

@@ -3,7 +3,7 @@ ghost use Rattle.std.specs.Prelude.{List, ℕ};
 ghost use Rattle.rtcm_msg.specs.declared.message.Message.{Message};
 ghost use Rattle.rtcm_inspect.specs.ReadBack.{AreKnown, AreEncoded, ReadsBack};
 ghost use Rattle.rtcm_inspect.specs.SignalLaws.{AreReadAsPlan, LeavesNoneOut, LosesNone, LosesUnknownCarriers};
-ghost use Rattle.rtcm_inspect.specs.SignalLaws.{SkipsNoValue};
+ghost use Rattle.rtcm_inspect.specs.SignalLaws.{HasFirstMsm, SkipsNoValue};
 ghost use Rattle.rtcm_inspect.specs.WeekLaws.{AreWeeksRead, HasOneWeek, IsBelowWeek, IsDatedByStart, IsLeapFree};
 ghost use Rattle.rtcm_inspect.specs.WeekLaws.{IsNearestPrinted};
 ghost use Rattle.rtcm_inspect.specs.SentWeekLaws.{IsCountedFromStart, IsInSentWeek};
@@ -24,13 +24,15 @@ pub fn read_back()
 /// conversion with this plan has a column for each value of a listed satellite and signal, and
 /// counts as `skipped` only unlisted cells and cells without a value, in any forms. In the printed
 /// forms it reads every cell with a value: pseudorange and strength always, phase and Doppler shift
-/// if the carrier of the satellite is known, which of GLONASS needs its channel.
+/// if the carrier of the satellite is known, which of GLONASS needs its channel. A stream with a
+/// signal has an MSM that such a conversion decodes, so that a date gives it a week.
 pub fn signals()
     ensures columns { LeavesNoneOut }
     ensures read { AreReadAsPlan }
     ensures skips { SkipsNoValue }
     ensures all { LosesNone }
     ensures carriers { LosesUnknownCarriers }
+    ensures first { HasFirstMsm }
 {
     gnss_obs::laws::signal_tables();
 }

@@ -14,5 +14,5 @@ returns c =
       zero = c.station.ensures.zero;
       range = c.lengths.ensures.first;
     } in
-    let date : DateLaws = record { free = c.near.ensures.leap; dated = c.near.ensures.dated; small = c.near.ensures.small } in
+    let date : DateLaws = record { free = c.near.ensures.leap; dated = c.near.ensures.dated; some = c.signals.ensures.first; small = c.near.ensures.small } in
     record { words = words_printed; found = started_as_found read; dated = dated_as_printed read date; sent = dated_as_sent read date }
