@@ -17,6 +17,7 @@ mod PlannedLemmas
 mod SkipLemmas
 mod WeekLemmas
 mod SentWeekLemmas
+mod SaidTimeLemmas
 mod OptionLemmas
 mod LengthLemmas
 mod StreamChannelLemmas

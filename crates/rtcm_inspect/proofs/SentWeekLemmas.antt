@@ -16,7 +16,7 @@ greatest_more [] x = none_known x.time
 greatest_more (y ∷ ys) x = ap (max_known y.time) (greatest_more ys x) ∙ known_again y.time (greatest_time ys) x.time
 
 -- it doesn't fall
-not_less : (u tow : ℕ) → (v : ℕ) × (with_tow (Some u) tow ≡ Some v) × (u ≤ v)
+pub not_less : (u tow : ℕ) → (v : ℕ) × (with_tow (Some u) tow ≡ Some v) × (u ≤ v)
 not_less u tow = by (nat_lt half_week (ahead u tow) || is_past (u + ahead u tow)) refl where
   by : (b : Bool) → (nat_lt half_week (ahead u tow) || is_past (u + ahead u tow)) ≡ b → (v : ℕ) × ((if b then Some u else Some (u + ahead u tow)) ≡ Some v) × (u ≤ v)
   by true e = (u, refl, omega arith)

@@ -6,7 +6,8 @@ ghost use Rattle.rtcm_inspect.specs.SignalLaws.{AreReadAsPlan, LeavesNoneOut, Lo
 ghost use Rattle.rtcm_inspect.specs.SignalLaws.{HasFirstMsm, SkipsNoValue};
 ghost use Rattle.rtcm_inspect.specs.WeekLaws.{AreWeeksRead, HasOneWeek, IsBelowWeek, IsDatedByStart, IsLeapFree};
 ghost use Rattle.rtcm_inspect.specs.WeekLaws.{IsNearestPrinted};
-ghost use Rattle.rtcm_inspect.specs.SentWeekLaws.{IsCountedFromStart, IsInSentWeek};
+ghost use Rattle.rtcm_inspect.specs.SentWeekLaws.{AreWeeksSaid, HasGreatest, IsCountedFromStart, IsInSentWeek};
+ghost use Rattle.rtcm_inspect.specs.SentWeekLaws.{IsNearestTime};
 ghost use Rattle.rtcm_inspect.specs.ChannelLaws.{AreChannelsRead, AreFirstChannels, HasChannels};
 ghost use Rattle.rtcm_inspect.specs.LengthLaws.{AreHeightsRead, ArePositionsRead, IsFirstInRange};
 
@@ -54,9 +55,16 @@ pub fn near()
 /// Times that are counted from week 0 along a stream are those of a conversion: its greatest time is
 /// the counted one, after the begin of its start week. So if an ephemeris says which GPS week was
 /// counted as week 0, a conversion that starts in it is in the week of the ephemeris, when this comes.
+///
+/// The week counted as week 0 and the weeks counted are the week of the ephemeris. The time of the
+/// first MSM is the one with its time of week that is nearest to the greatest time at it; this
+/// exists if an ephemeris says a week.
 pub fn week()
     ensures counted { IsCountedFromStart }
     ensures sent { IsInSentWeek }
+    ensures said { AreWeeksSaid }
+    ensures near { IsNearestTime }
+    ensures some { HasGreatest }
 {}
 
 /// The position and the antenna height that `run_options` prints for a station message are read as
