@@ -1,6 +1,10 @@
 -- Laws of the choice of epochs.
-use Rattle.obs_epoch.proofs.Names.{◌≡◌, ℕ, zero, suc, ◌+◌, length, map, ◌<◌, ◌≤◌, Bool, true, false, ◌&&◌, List, [], ◌∷◌, ◌++◌, filter, refl, sym, ap, ap₂, arith, None, nat_le, nat_lt, not, cond, if◌then◌else◌, AllByRecursion, common_steps, TimesRise, Choice, every_epoch, in_window, closed_list_at, Cell, Closed, GatherSetup, Heard, counts_among, has_satellite, is_left_out, mark_if, thin, thin_after, is_written, written_among, value_tabulated, all_filter}
-use Rattle.obs_epoch.specs.Laws.{IsThinnedByChoice, IsWholeByEvery, NoneReturned, ReturnsEvery, WindowsAreApart, WindowsJoin, with_window}
+use Rattle.obs_epoch.proofs.Names.{◌≡◌, ◌∙◌, ◌*◌, ◌-◌, ◌/◌, ◌%◌, Option, Some, subst, ℕ, zero, suc, ◌+◌, length, map, ◌<◌, ◌≤◌, Bool, true, false, ◌&&◌, List, [], ◌∷◌, ◌++◌, filter, refl, sym, ap, ap₂, arith, None, nat_le, nat_lt, not, cond, if◌then◌else◌, AllByRecursion, common_steps, TimesRise, Choice, every_epoch, in_window, on_grid, closed_list_at, Cell, Closed, GatherSetup, Heard, counts_among, has_satellite, is_left_out, mark_if, thin, thin_after, is_written, written_among, value_tabulated, all_filter}
+use Rattle.std.specs.Option.{option_map_or}
+use Rattle.std.proofs.Math.Nat.{mod-le, mul-add-mod_self_right}
+use Rattle.std.proofs.lemmas.Bool.{le-leb}
+use Rattle.std.proofs.lemmas.Nat.{div-add-mod'}
+use Rattle.obs_epoch.specs.Laws.{IsNearMultiple, IsOnGridNearMultiples, IsThinnedByChoice, IsWholeByEvery, NoneReturned, ReturnsEvery, WindowsAreApart, WindowsJoin, with_window}
 use Rattle.obs_epoch.proofs.ReachLemmas.{IsWithin, all_within}
 use Rattle.obs_epoch.proofs.ThinLemmas.{marks_none, none_lost}
 
@@ -41,6 +45,34 @@ join c from middle until es p q h = join_after c from middle until [] es p q h
 
 pub apart : WindowsAreApart
 apart c from middle until t h = grind arith
+
+-- ---- the grid
+
+-- a quotient and a rest
+module _ (n m : ℕ) where
+  parts : n / m * m + n % m ≡ n
+  parts = div-add-mod' n m
+
+  rest_less : (k : ℕ) → k * m ≤ n → n % m ≤ n - k * m
+  rest_less k le =
+      let rest : (k * m + (n - k * m)) % m ≡ (n - k * m) % m = mul-add-mod_self_right k m (n - k * m) in
+      let whole : k * m + (n - k * m) ≡ n = omega (arith, le) in
+      subst (λ (r : ℕ). r ≤ n - k * m) (sym (ap (λ (x : ℕ). x % m) (sym whole) ∙ rest)) (mod-le (n - k * m) m)
+
+near_if : (c : Choice) (interval t : ℕ) → nat_le ((t + c.tolerance) % interval) (2 * c.tolerance) ≡ true → IsNearMultiple interval c.tolerance t
+near_if c interval t is =
+    let p = parts (t + c.tolerance) interval in
+    let le : (t + c.tolerance) % interval ≤ 2 * c.tolerance = grind (arith, is) in
+    ((t + c.tolerance) / interval, omega (arith, p), omega (arith, p, le))
+
+if_near : (c : Choice) (interval t : ℕ) → IsNearMultiple interval c.tolerance t → nat_le ((t + c.tolerance) % interval) (2 * c.tolerance) ≡ true
+if_near c interval t (k, before, after) = le-leb ((t + c.tolerance) % interval) (2 * c.tolerance) (let rest = rest_less (t + c.tolerance) interval k before in omega (arith, rest, before, after))
+
+grid_of : (c : Choice) (interval t : ℕ) → c.interval ≡ Some interval → on_grid c t ≡ nat_le ((t + c.tolerance) % interval) (2 * c.tolerance)
+grid_of c interval t is = ap (λ (o : Option ℕ). option_map_or (λ (i : ℕ). nat_le ((t + c.tolerance) % i) (2 * c.tolerance)) o true) is
+
+pub near_multiples : IsOnGridNearMultiples
+near_multiples c interval t is = (λ on. near_if c interval t (sym (grid_of c interval t is) ∙ on), λ near. grid_of c interval t is ∙ if_near c interval t near)
 
 -- ---- the default
 

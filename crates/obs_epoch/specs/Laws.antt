@@ -1,5 +1,5 @@
 -- Laws of the epochs of a list.
-use Rattle.std.specs.Prelude.{ℕ, ◌≡◌, ◌≤◌, true, false, List, [], ◌++◌, filter, length, None}
+use Rattle.std.specs.Prelude.{ℕ, ◌≡◌, ◌↔◌, ◌+◌, ◌*◌, ◌<◌, ◌≤◌, true, false, List, [], ◌++◌, filter, length, None, Some}
 use Rattle.std.specs.List.{AllByRecursion}
 use Rattle.obs_epoch.specs.Heard.{GatherSetup, Heard}
 use Rattle.obs_epoch.specs.Kinds.{is_close_first, kind_of}
@@ -7,7 +7,7 @@ use Rattle.rtcm_bits.specs.Prefix.{IsPrefix}
 use Rattle.gnss_obs.specs.GatheredEpochs.{TimesRise}
 use Rattle.gnss_obs.specs.Values.{Closed}
 use Rattle.obs_epoch.specs.declared.choice.Choice.{Choice}
-use Rattle.obs_epoch.specs.Choices.{every_epoch, in_window}
+use Rattle.obs_epoch.specs.Choices.{every_epoch, in_window, on_grid}
 use Rattle.obs_epoch.specs.Clock.{is_pending}
 use Rattle.obs_epoch.specs.Epochs.{closed_so_far}
 use Rattle.obs_epoch.specs.Loss.{times}
@@ -41,6 +41,16 @@ NeverFirst = (s : GatherSetup) (ms : List Heard) (m : Heard) → is_close_first 
 abbrev pub ReturnsEvery : Type 0
 ReturnsEvery = (c : Choice) (es : List Closed) → c.interval ≡ None
     → AllByRecursion (λ e. in_window c e.epoch.time ≡ true) es → thin c es ≡ es
+
+-- The time is at most the tolerance before or after a multiple of the interval.
+abbrev pub IsNearMultiple : (interval tolerance t : ℕ) → Type 0
+IsNearMultiple interval tolerance t =
+    (k : ℕ) × (k * interval ≤ t + tolerance) × (t ≤ k * interval + tolerance)
+
+-- Exactly such a time is on the grid of an interval.
+abbrev pub IsOnGridNearMultiples : Type 0
+IsOnGridNearMultiples = (c : Choice) (interval t : ℕ) → c.interval ≡ Some interval
+    → (on_grid c t ≡ true ↔ IsNearMultiple interval c.tolerance t)
 
 abbrev pub with_window : ℕ → ℕ → Choice → Choice
 with_window from until c = record c { from = from; until = until }

@@ -2,7 +2,7 @@
 ghost use Rattle.gnss_obs.specs.Values.{no_values};
 ghost use Rattle.obs_epoch.specs.Laws.{AllClosed, ClosedStay, ClosedComeFirst, NoneClosed, NeverFirst};
 ghost use Rattle.obs_epoch.specs.Laws.{IsThinnedByChoice, IsWholeByEvery, NoneReturned, ReturnsEvery, WindowsAreApart};
-ghost use Rattle.obs_epoch.specs.Laws.{WindowsJoin};
+ghost use Rattle.obs_epoch.specs.Laws.{IsOnGridNearMultiples, WindowsJoin};
 ghost use Rattle.obs_epoch.specs.Reach.{MessagesAreHeard, EpochsAreGathered};
 ghost use Rattle.obs_epoch.specs.Starts.{IsGivenWeek, IsNearestFirst, IsWeekOfWeeks};
 ghost use Rattle.obs_epoch.specs.TimeLaws.{IsGlonassTime};
@@ -37,7 +37,8 @@ pub fn gathered()
 /// The chosen epochs. Without an interval, a window that has all times leaves no epoch out and
 /// marks none. The epochs of two windows that meet are those of the whole window, and no time is in
 /// both. The epochs of a choice are the thinned list of those of every epoch. If none of them has
-/// a value, the epochs with a value are those that are left out.
+/// a value, the epochs with a value are those that are left out. An epoch is on the grid of an
+/// interval exactly if its time is at most the tolerance before or after a multiple of it.
 pub fn choices()
     ensures every { ReturnsEvery }
     ensures windows { WindowsJoin }
@@ -45,6 +46,7 @@ pub fn choices()
     ensures whole { IsWholeByEvery }
     ensures thinned { IsThinnedByChoice }
     ensures none { NoneReturned }
+    ensures grid { IsOnGridNearMultiples }
 {}
 
 /// With a plan of GPS and Galileo alone and MSM4 and MSM7, exactly the messages 1005, 1006, 1074,

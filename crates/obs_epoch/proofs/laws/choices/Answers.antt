@@ -1,4 +1,4 @@
-use Rattle.obs_epoch.proofs.ChoiceLemmas.{apart, every, join, none, thinned, whole}
+use Rattle.obs_epoch.proofs.ChoiceLemmas.{apart, every, join, near_multiples, none, thinned, whole}
 use Rattle.obs_epoch.proofs.laws.choices.Goals as goal
 
 pub returns-clause-every : goal.returns-clause-every
@@ -18,3 +18,6 @@ returns-clause-thinned c = thinned
 
 pub returns-clause-none : goal.returns-clause-none
 returns-clause-none c = none
+
+pub returns-clause-grid : goal.returns-clause-grid
+returns-clause-grid c = near_multiples
