@@ -15,45 +15,46 @@ test "$plan" || {
 }
 stream=$2 obs=$3-$(date -u +%Y%m%dT%H%M%SZ).obs
 shift 3
-# Its week is wrong if the stream began half a week after the start, or paused for half a week. The command date is that
+
+# Prints a line with the process number of str2str, which ignores SIGPIPE and would go on alone, and then the stream.
+# Its status, if it fails by itself, goes to descriptor 3; a stop ends the shell that waits for it.
+read_stream() { sh -c 'echo $$; exec str2str -in "$1"' sh "$stream" || echo $? >&3; }
+
+# The week is wrong if the stream began half a week after the start, or paused for half a week. The command date is that
 # of GNU.
-last_epoch() {
-    tail -c 1000000 -- "$obs" | awk '
+check_week() {
+    last=$(tail -c 1000000 -- "$obs" | awk '
         /^> [0-9]/ { last = $2 "-" $3 "-" $4 " " $5 ":" $6 }
-        END { print last }'
+        END { print last }')
+    ago=$(($(date -u +%s) - $(date -u -d "$last" +%s)))
+    test "${ago#-}" -lt 302400 || {
+        echo "$obs: the last epoch is of $last, over half a week from now: its week may be wrong" >&2
+        exit 1
+    }
 }
 
-# The first line in the pipe is the process number of str2str, which ignores SIGPIPE and would go on alone. Its status,
-# if it fails by itself, comes by descriptor 3; a stop ends the shell that waits for it.
-failed=$(
-    {
-        { sh -c 'echo $$; exec str2str -in "$1"' sh "$stream" || echo $? >&3; } |
-            (
-                # str2str ends by these signals; its reader then writes the last epoch
-                trap '' HUP INT TERM
-                read -r reader
-                # an existing file isn't overwritten
-                set -C
-                # the report is in a variable, as there may be no room for it on a full disk
-                # shellcheck disable=SC2086 # the shell has to split a plan into options
-                if report=$(rtcm2rinex convert --near "$(date -u +%F)" --date "$(date -u '+%Y%m%d %H%M%S UTC')" \
-                    $plan "$@" 2>&1 > "$obs"); then
-                    echo "$obs: $report" >&2
-                    last=$(last_epoch)
-                    ago=$(($(date -u +%s) - $(date -u -d "$last" +%s)))
-                    test "${ago#-}" -lt 302400 || {
-                        echo "$obs: the last epoch is of $last, over half a week from now: its week may be wrong" >&2
-                        exit 1
-                    }
-                else
-                    echo "$obs: the conversion ended with status $?: $report" >&2
-                    # str2str loses a signal that comes before it has started
-                    while kill "$reader" 2> /dev/null; do sleep 1; done
-                    exit 1
-                fi
-            ) 3>&-
-    } 3>&1
-)
+# The report is in a variable, as there may be no room for it on a full disk.
+convert_stream() {
+    # str2str ends by these signals; its reader then writes the last epoch
+    trap '' HUP INT TERM
+    read -r reader
+    # an existing file isn't overwritten
+    set -C
+    # shellcheck disable=SC2086 # the shell has to split a plan into options
+    if report=$(rtcm2rinex convert --near "$(date -u +%F)" --date "$(date -u '+%Y%m%d %H%M%S UTC')" \
+        $plan "$@" 2>&1 > "$obs"); then
+        echo "$obs: $report" >&2
+        check_week
+    else
+        echo "$obs: the conversion ended with status $?: $report" >&2
+        # str2str loses a signal that comes before it has started
+        while kill "$reader" 2> /dev/null; do sleep 1; done
+        exit 1
+    fi
+}
+
+# the status of str2str, by descriptor 3
+failed=$({ read_stream | convert_stream "$@" 3>&-; } 3>&1)
 test -z "$failed" || {
     echo "$obs: ends here, as str2str ended with status $failed" >&2
     exit 1
