@@ -5,7 +5,7 @@ ghost use Rattle.obs_epoch.specs.Laws.{IsThinnedByChoice, IsWholeByEvery, NoneRe
 ghost use Rattle.obs_epoch.specs.Laws.{IsOnGridNearMultiples, WindowsJoin};
 ghost use Rattle.obs_epoch.specs.Reach.{MessagesAreHeard, EpochsAreGathered};
 ghost use Rattle.obs_epoch.specs.Starts.{IsGivenWeek, IsNearestFirst, IsWeekOfWeeks};
-ghost use Rattle.obs_epoch.specs.TimeLaws.{IsGlonassTime};
+ghost use Rattle.obs_epoch.specs.TimeLaws.{IsGlonassTime, IsNextTime};
 ghost use Rattle.obs_epoch.specs.TwoSystems.{AreReadPlainly};
 ghost use Rattle.gnss_obs.specs.GatheredEpochs.{AreStationValues};
 
@@ -71,4 +71,11 @@ pub fn first_week()
 #[tactic(auto, using(crate::proofs::TimeLawLemmas::glonass_time))]
 pub fn glonass_time()
     ensures { IsGlonassTime }
+{}
+
+/// A message that is not the first is at the next time with its time of week, from the greatest time
+/// on, unless it is late.
+#[tactic(auto, using(crate::proofs::TimeLawLemmas::next_time))]
+pub fn next_time()
+    ensures { IsNextTime }
 {}
