@@ -43,10 +43,10 @@ pub use Rattle.rtcm_inspect.specs.CountedTimes.{counted_before, counted_set, cou
 pub use Rattle.rtcm_inspect.specs.Devices.{stream_fault}
 unfoldable pub use Rattle.rtcm_inspect.specs.EquipmentLines.{equipment_line, quoted}
 pub use Rattle.rtcm_inspect.specs.EquipmentLines.{equipment_fault_words, escaped}
-pub use Rattle.rtcm_inspect.specs.FirstMessages.{AreFirst, mixed_of, point_of, sender, stations_of}
+pub use Rattle.rtcm_inspect.specs.FirstMessages.{mixed_of, point_of, sender, stations_of}
 pub use Rattle.rtcm_inspect.specs.FirstTwo.{first_two}
 unfoldable pub use Rattle.rtcm_inspect.specs.Fitting.{options_line}
-pub use Rattle.rtcm_inspect.specs.Fitting.{antenna_words, first_words, forms_words, further_words, height_text, number_start, number_words, other_words, position_text, position_word, station_words}
+pub use Rattle.rtcm_inspect.specs.Fitting.{antenna_words, forms_words, further_words, height_text, number_words, other_words, position_text, position_word, station_words}
 unfoldable pub use Rattle.rtcm_inspect.specs.FrameLines.{frame_line, number_word}
 pub use Rattle.rtcm_inspect.specs.Inspected.{inspected, inspected_at, inspected_in, inspected_of}
 pub use Rattle.rtcm_inspect.specs.Listing.{EndsListing, Lists, ListsAll, ListsDecided, ListsPart, ListsToLimit, ListsUpTo, listing_line, listing_lines, piece_bytes}
@@ -58,7 +58,7 @@ unfoldable pub use Rattle.rtcm_inspect.specs.ShowLines.{fault_line, message_line
 pub use Rattle.rtcm_inspect.specs.ShowLines.{height_words, line_with, read_for, read_line, show_line}
 pub use Rattle.rtcm_inspect.specs.SignalLaws.{CellValues, LosesUnknownCarriers, ReadsAll, SkipsOnly, values_by}
 unfoldable pub use Rattle.rtcm_inspect.specs.Signals.{count_line}
-pub use Rattle.rtcm_inspect.specs.Signals.{AreSignalsOf, AreSignalsRefused, code_list, codes_word, count_lines, decodes, forms_had, had, had_below, has_counted, has_other_value, lines_below, needs_all, plan_had, plan_in, set_had, valued_in, valued_of}
+pub use Rattle.rtcm_inspect.specs.Signals.{AreSignalsOf, AreSignalsRefused, code_list, codes_word, count_lines, forms_had, had, had_below, has_other_value, lines_below, needs_all, plan_had, plan_in, set_had, valued_in, valued_of}
 pub use Rattle.rtcm_inspect.specs.StreamChannels.{channels_in, sent_by, sent_in, sent_of, with_first, with_sent}
 pub use Rattle.rtcm_inspect.specs.StreamCounts.{is_msm, msm_in, stream_counts}
 pub use Rattle.rtcm_inspect.specs.StreamOutput.{EndsStream, ReadsTooMuch}
@@ -76,9 +76,9 @@ pub use Rattle.rtcm_inspect.specs.declared.first_two.FirstTwo.{FirstTwo}
 pub use Rattle.rtcm_inspect.specs.declared.first_two.FirstTwo.TheVariants.{One, Several, Unknown}
 pub use Rattle.rtcm_inspect.specs.declared.listing.Listing.{Listing}
 pub use Rattle.rtcm_inspect.specs.declared.printed_week.FirstMsm.{FirstMsm}
-pub use Rattle.rtcm_inspect.specs.inner.Counting.{AreFrameCounts, AreSignals, Counts, HasCounted, IsCounted, NeverFails, StopsCounting, Takes}
+pub use Rattle.rtcm_inspect.specs.inner.Counting.{AreFirst, AreFrameCounts, AreSignals, Counts, HasCounted, IsCounted, NeverFails, StopsCounting, Takes, decodes, has_counted}
 pub use Rattle.rtcm_inspect.specs.inner.FirstTows.{AreTows, CountsTow, HaveGreatest, IsGreatestAt, IsMsmOf, IsWith, KeepsFirst, earlier_of, earliest, first_of_system, greatest_among, later_by, tow_by, tows_with_greatest, with_greatest}
-pub use Rattle.rtcm_inspect.specs.inner.Lines.{longest_head, longest_plan, longest_quoted}
+pub use Rattle.rtcm_inspect.specs.inner.Lines.{first_words, longest_head, longest_plan, longest_quoted, number_start}
 pub use Rattle.rtcm_inspect.specs.inner.SaidWeeks.{AreSaid, AreSaidIn}
 pub use Rattle.rtcm_msg.proofs.MessageLaws.{message_there, message_value, one_value, zero_read}
 pub use Rattle.rtcm_msg.proofs.SetLaws.{inside, outside, refused, value_with, whole_is}

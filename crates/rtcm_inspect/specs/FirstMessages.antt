@@ -1,15 +1,11 @@
 -- What the first messages of a stream contain, and the stations of its messages.
-use Rattle.std.specs.Prelude.{◌≡◌, ℕ, ◌||◌, List, filter_map, Option, Some, None, is_some}
-use Rattle.std.specs.Prelude.{IfSome, option_and_then, if◌then◌else◌}
+use Rattle.std.specs.Prelude.{ℕ, ◌||◌, List, filter_map, Option, Some, None, is_some, option_and_then, if◌then◌else◌}
 use Rattle.rtcm_scan.specs.Frames.{Framed}
-use Rattle.rtcm_msg.specs.Station.{InRange}
 use Rattle.rtcm_msg.specs.declared.station.StationParts.{StationParts}
 use Rattle.obs_epoch.specs.Heard.{Heard}
 use Rattle.obs_epoch.specs.SignalCounts.{is_of_station}
-use Rattle.rtcm_inspect.specs.inner.FirstTows.{AreTows}
 use Rattle.rtcm_inspect.specs.WeekLaws.{first_in}
 use Rattle.rtcm_inspect.specs.Inspected.{inspected_at}
-use Rattle.rtcm_inspect.specs.declared.first_messages.FirstMessages.{FirstMessages}
 use Rattle.rtcm_inspect.specs.FirstTwo.{first_two}
 use Rattle.rtcm_inspect.specs.declared.first_two.FirstTwo.{FirstTwo}
 use Rattle.rtcm_inspect.specs.declared.first_two.FirstTwo.TheVariants.{Unknown, One, Several}
@@ -41,12 +37,3 @@ mixed_of None Unknown = None
 
 abbrev pub mixed : Option ℕ → List Framed → Option (ℕ × ℕ)
 mixed wanted fs = mixed_of wanted (first_two (stations_of fs))
-
--- ---- while the stream is read
-
--- x is what the first messages in these frames contain
-pub record AreFirst (x : FirstMessages) (wanted : Option ℕ) (fs : List Framed) : Type 0 where
-  pub point : x.point ≡ first_station wanted fs
-  pub tows : AreTows x.tows wanted fs
-  pub stations : x.stations ≡ first_two (stations_of fs)
-  pub in_range : IfSome x.point InRange

@@ -14,7 +14,7 @@ use Rattle.gnss_obs.specs.Channels.{ChannelsValue}
 use Rattle.obs_epoch.specs.Sets.{is_always_decoded}
 use Rattle.line_texts.specs.ChannelTexts.{channels_text}
 use Rattle.rtcm_inspect.specs.FirstMessages.{first_station}
-use Rattle.line_texts.specs.Lines.{line, with_words}
+use Rattle.line_texts.specs.Lines.{line}
 use Rattle.line_texts.specs.Metres.{metres}
 use Rattle.rtcm_inspect.specs.Signals.{codes_word, forms_had, plan_in}
 
@@ -67,17 +67,6 @@ other_words leap p s =
 abbrev pub forms_words : Forms → List (List ℕ)
 forms_words FourAndSeven = []
 forms_words All = codes "--msm" ∷ codes "all" ∷ []
-
--- an option with a number and a blank, if there is a number
-abbrev pub number_start : List ℕ → Option ℕ → List ℕ
-number_start name None = []
-number_start name (Some n) = name ++ 0x20 ∷ (decimal n ++ 0x20 ∷ [])
-
--- the first words of the options, up to the signals of Galileo
-abbrev pub first_words : (week station : Option ℕ) → PlanValue → List ℕ
-first_words week station p =
-    with_words ((number_start (codes "--week") week ++ number_start (codes "--station") station) ++ codes "--gps")
-    (codes_word Gps p.signals.gps ∷ codes "--galileo" ∷ codes_word Galileo p.signals.galileo ∷ [])
 
 -- the words of the options with this week, these leap seconds and this station that plan these signals in these forms,
 -- and of those with the values of this station message

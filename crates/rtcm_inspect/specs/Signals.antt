@@ -1,6 +1,6 @@
 -- The signals of a stream, and their texts.
 use Rattle.std.specs.Prelude.{◌≡◌, ◌<◌, ℕ, nat_lt, List, [], ◌∷◌, map, filter, flat_map, length, codes, decimal, Option}
-use Rattle.std.specs.Prelude.{Bool, false, not, ◌&&◌, ◌||◌, Result, Ok, Err, if◌then◌else◌}
+use Rattle.std.specs.Prelude.{Bool, false, not, ◌&&◌, Result, Ok, Err, if◌then◌else◌}
 use Rattle.std.specs.Option.{option_map_or}
 use Rattle.std.specs.List.{join_with_byte, list_any}
 use Rattle.rtcm_scan.specs.Frames.{Framed, frames_of}
@@ -17,9 +17,8 @@ use Rattle.rtcm_msg.specs.declared.number.Forms.TheVariants.{FourAndSeven, All}
 use Rattle.rtcm_msg.specs.declared.number.MsmSet.{MsmSet}
 use Rattle.rtcm_msg.specs.Numbers.{have_form}
 use Rattle.rtcm_msg.specs.Decoding.{message_at}
-use Rattle.obs_epoch.specs.Sets.{is_always_decoded, set_of}
+use Rattle.obs_epoch.specs.Sets.{set_of}
 use Rattle.obs_epoch.specs.SignalCounts.{valued, count_of, signal_in}
-use Rattle.obs_epoch.specs.inner.SignalCounts.{SignalCountsValue, counted}
 use Rattle.gnss_obs.specs.Plans.{below, with_channels}
 use Rattle.gnss_obs.specs.Channels.{ChannelsValue}
 use Rattle.gnss_obs.specs.Values.{PlanValue, plan_with}
@@ -79,13 +78,6 @@ forms_had wanted fs = if list_any (λ f. needs_all wanted (message_at f.message)
 -- the MSMs that a conversion decodes with the plan of their signals, in their forms
 abbrev pub set_had : Option ℕ → List Framed → MsmSet
 set_had wanted fs = set_of (plan_in wanted fs) (forms_had wanted fs)
-
--- by the counts: whether a signal of a system has a cell, and whether its MSMs are decoded
-abbrev pub has_counted : SignalCountsValue → System → Bool
-has_counted c s = list_any (λ i. nat_lt 0 (counted c s i)) (below (length (table s)))
-
-abbrev pub decodes : SignalCountsValue → System → Bool
-decodes c s = is_always_decoded s || has_counted c s
 
 -- ---- the text
 

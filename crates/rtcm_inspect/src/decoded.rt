@@ -1,7 +1,8 @@
 //! The MSMs that a conversion decodes with the options that fit a stream.
 ghost use Rattle.std.specs.Prelude.{◌≡◌};
 ghost use Rattle.rtcm_inspect.specs.inner.Counting.{HoldsForFrames};
-ghost use Rattle.rtcm_inspect.specs.Signals.{decodes, has_counted, set_had};
+ghost use Rattle.rtcm_inspect.specs.Signals.{set_had};
+ghost use Rattle.rtcm_inspect.specs.inner.Counting.{decodes, has_counted};
 
 use crate::counting::StreamSignals;
 use gnss_system::{BySystem, System};

@@ -1,6 +1,7 @@
 //! What the first messages of a stream contain.
 ghost use Rattle.std.specs.Prelude.{◌≡◌, [], ℕ, Option};
-ghost use Rattle.rtcm_inspect.specs.FirstMessages.{AreFirst, mixed_of};
+ghost use Rattle.rtcm_inspect.specs.FirstMessages.{mixed_of};
+ghost use Rattle.rtcm_inspect.specs.inner.Counting.{AreFirst};
 
 use crate::first_tows::FirstTows;
 use crate::first_two::FirstTwo;

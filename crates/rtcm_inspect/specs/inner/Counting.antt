@@ -1,10 +1,14 @@
 -- The counts of the cells of a stream, by signal, while the stream is read.
-use Rattle.std.specs.Prelude.{◌≡◌, ℕ, ◌+◌, ◌*◌, ◌%◌, ◌<◌, ◌≤◌, ◌^◌, List, [], ◌∷◌, ◌++◌, length, Option, Result, ⊤}
+use Rattle.std.specs.Prelude.{◌≡◌, ℕ, ◌+◌, ◌*◌, ◌%◌, ◌<◌, ◌≤◌, ◌^◌, ◌||◌, Bool, List, [], ◌∷◌, ◌++◌, length, nat_lt, Option, Result, ⊤}
 use Rattle.std.specs.Prelude.{IfSome, MatchResult, option_and_then, option_to_list, if◌then◌else◌}
 use Rattle.std.specs.Option.{option_map_or, option_or}
+use Rattle.std.specs.List.{list_any}
 use Rattle.std.specs.Io.KnownBytes.{Consumes, IsAtEnd}
 use Rattle.devices.specs.Device.{Device}
+use Rattle.gnss_system.specs.declared.system.System.{System}
+use Rattle.gnss_system.specs.Signals.{table}
 use Rattle.gnss_obs.specs.HeardCells.{HeardCell}
+use Rattle.gnss_obs.specs.Plans.{below}
 use Rattle.rtcm_scan.specs.Frames.{Framed, frames_of}
 use Rattle.rtcm_scan.specs.Scan.{most_bytes}
 use Rattle.rtcm_msg.specs.Channels.{channel_of_1020}
@@ -13,9 +17,10 @@ use Rattle.rtcm_msg.specs.declared.message.Message.{Message}
 use Rattle.rtcm_msg.specs.Msm.{most_pairs}
 use Rattle.rtcm_msg.specs.Station.{InRange}
 use Rattle.rtcm_msg.specs.declared.number.Forms.TheVariants.{All}
+use Rattle.obs_epoch.specs.Sets.{is_always_decoded}
 use Rattle.obs_epoch.specs.SignalCounts.{valued}
-use Rattle.obs_epoch.specs.inner.SignalCounts.{SignalCountsValue, AreSignalCounts}
-use Rattle.rtcm_inspect.specs.FirstMessages.{AreFirst, point_of, sender}
+use Rattle.obs_epoch.specs.inner.SignalCounts.{SignalCountsValue, AreSignalCounts, counted}
+use Rattle.rtcm_inspect.specs.FirstMessages.{first_station, point_of, sender, stations_of}
 use Rattle.rtcm_inspect.specs.FirstTwo.{first_two}
 use Rattle.rtcm_inspect.specs.Inspected.{inspected_of}
 use Rattle.rtcm_inspect.specs.inner.FirstTows.{AreTows}
@@ -27,6 +32,7 @@ use Rattle.rtcm_inspect.specs.StreamCounts.{is_msm, msm_in, stream_counts}
 use Rattle.rtcm_inspect.specs.StreamOutput.{ReadsTooMuch}
 use Rattle.rtcm_inspect.specs.declared.fault.InspectFault.{InspectFault}
 use Rattle.rtcm_inspect.specs.declared.fault.InspectFault.TheVariants as faults
+use Rattle.rtcm_inspect.specs.declared.first_messages.FirstMessages.{FirstMessages}
 use Rattle.rtcm_inspect.specs.declared.counting.StreamSignals.{StreamSignals}
 use Rattle.rtcm_inspect.specs.declared.fault.StreamCounts.{StreamCounts}
 use Rattle.rtcm_inspect.specs.declared.printed_week.PrintedWeek.{PrintedWeek}
@@ -36,6 +42,20 @@ use Rattle.rtcm_inspect.specs.declared.printed_week.WeekSource.{WeekSource}
 pub record IsCounted (c : SignalCountsValue) (wanted : Option ℕ) (fs : List Framed) : Type 0 where
   pub signal_counts : AreSignalCounts c (valued_in wanted fs)
   pub few : length (valued_in wanted fs) ≤ most_pairs * length fs
+
+-- by the counts: whether a signal of a system has a cell, and whether its MSMs are decoded
+abbrev pub has_counted : SignalCountsValue → System → Bool
+has_counted c s = list_any (λ i. nat_lt 0 (counted c s i)) (below (length (table s)))
+
+abbrev pub decodes : SignalCountsValue → System → Bool
+decodes c s = is_always_decoded s || has_counted c s
+
+-- x is what the first messages in these frames contain
+pub record AreFirst (x : FirstMessages) (wanted : Option ℕ) (fs : List Framed) : Type 0 where
+  pub point : x.point ≡ first_station wanted fs
+  pub tows : AreTows x.tows wanted fs
+  pub stations : x.stations ≡ first_two (stations_of fs)
+  pub in_range : IfSome x.point InRange
 
 -- the numbers of these frames
 pub record AreFrameCounts (c : StreamCounts) (fs : List Framed) : Type 0 where

@@ -1,9 +1,12 @@
 -- The most bytes of parts of lines.
-use Rattle.std.specs.Prelude.{ℕ, ◌+◌, ◌*◌, length}
+use Rattle.std.specs.Prelude.{ℕ, ◌+◌, ◌*◌, ◌++◌, List, [], ◌∷◌, Option, Some, None, codes, decimal, length}
+use Rattle.gnss_system.specs.declared.system.System.TheVariants.{Gps, Galileo}
 use Rattle.gnss_system.specs.Signals.{most_signals}
 use Rattle.gnss_system.specs.Systems.{systems}
-use Rattle.line_texts.specs.Lines.{longest_line, longest_number}
+use Rattle.gnss_obs.specs.Values.{PlanValue}
+use Rattle.line_texts.specs.Lines.{longest_line, longest_number, with_words}
 use Rattle.rtcm_msg.specs.Equipment.{longest_text}
+use Rattle.rtcm_inspect.specs.Signals.{codes_word}
 
 -- the most bytes before the line of a frame or a message
 abbrev pub longest_prefix : ℕ
@@ -33,3 +36,16 @@ longest_head = 4 * (1 + longest_number)
 
 abbrev pub longest_quoted : ℕ
 longest_quoted = 3 + 4 * longest_text
+
+-- ---- the first words of a line
+
+-- an option with a number and a blank, if there is a number
+abbrev pub number_start : List ℕ → Option ℕ → List ℕ
+number_start name None = []
+number_start name (Some n) = name ++ 0x20 ∷ (decimal n ++ 0x20 ∷ [])
+
+-- the first words of the options, up to the signals of Galileo
+abbrev pub first_words : (week station : Option ℕ) → PlanValue → List ℕ
+first_words week station p =
+    with_words ((number_start (codes "--week") week ++ number_start (codes "--station") station) ++ codes "--gps")
+    (codes_word Gps p.signals.gps ∷ codes "--galileo" ∷ codes_word Galileo p.signals.galileo ∷ [])
