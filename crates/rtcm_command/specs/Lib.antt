@@ -7,3 +7,4 @@ pub mod Commands
 pub mod StationLaws
 pub mod PrintedPlan
 pub mod NearOption
+pub mod WindowLaws

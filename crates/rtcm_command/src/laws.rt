@@ -3,6 +3,7 @@ ghost use Rattle.rtcm_command.specs.NearOption.{IsDatedByNear};
 ghost use Rattle.rtcm_command.specs.PrintedPlan.{ArePrintedWords, IsDatedAsPrinted, IsDatedAsSent, IsStartedAsFound};
 ghost use Rattle.rtcm_command.specs.StationLaws.{AreChannelsSet, AreLeapSecondsRead, AreReadAsStation};
 ghost use Rattle.rtcm_command.specs.StationLaws.{AreZeroByDefault, IsStationRead, IsWeekRead};
+ghost use Rattle.rtcm_command.specs.WindowLaws.{AreChosenInside};
 
 /// The position and the height that `options` prints for a station message are read as the station
 /// values of that message, for every message in range. Without them the values are 0.
@@ -61,3 +62,9 @@ pub fn printed_plan()
     rtcm_inspect::laws::lengths();
     rtcm_inspect::laws::channels();
 }
+
+/// Each epoch that a conversion chooses by a window is inside of this window for `check`, at
+/// intervals of 1 s or more.
+pub fn windows()
+    ensures { AreChosenInside }
+{}
