@@ -21,7 +21,7 @@ set -eu
 export LC_ALL=C
 : "${2:?usage: day.sh STATION DAY}"
 station=$1 day=$2
-scripts=$(CDPATH='' cd -- "$(dirname -- "$0")" && pwd)
+scripts=$(dirname -- "$(readlink -f -- "$0")")
 
 # The phases of a day are the functions that the last lines of this script call, here in the same order, each after
 # those that it calls. What a phase leaves to those after it, in variables, which are empty if there is no such thing:
@@ -94,6 +94,7 @@ msm='
 # ---- names and options
 
 check_names() {
+    test -r "$scripts/day-lacks.awk" || say "no file: $scripts/day-lacks.awk is missing"
     case $station in
     [A-Z0-9][A-Z0-9][A-Z0-9][A-Z0-9][0-9][0-9][A-Z][A-Z][A-Z]) ;;
     *) say "no file: the name of a station has nine capital letters and digits, as KIRU00SWE" ;;

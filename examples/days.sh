@@ -1,7 +1,7 @@
 #!/bin/sh
-# days.sh STATION [N]: converts yesterday by day.sh in this folder, and before it each of the N days before that has raw
-# logs and no report, as after the machine was off or had no room, or that lacked epochs and has more logs now. Without
-# N these are 6 days, and all since the latest one that has a report. It prints a line for each day that lacks
+# days.sh STATION [N]: converts yesterday by day.sh beside this file, and before it each of the N days before that has
+# raw logs and no report, as after the machine was off or had no room, or that lacked epochs and has more logs now.
+# Without N these are 6 days, and all since the latest one that has a report. It prints a line for each day that lacks
 # something, and then fails.
 set -eu
 : "${1:?usage: days.sh STATION [N]}"
@@ -12,7 +12,7 @@ case $days in
     exit 1
     ;;
 esac
-scripts=$(CDPATH='' cd -- "$(dirname -- "$0")" && pwd)
+scripts=$(dirname -- "$(readlink -f -- "$0")")
 
 # Prints the date of a number of days ago.
 days_ago() { date -u -d "$today - $1 days" +%F; }

@@ -11,7 +11,10 @@ set -eu
 # in another locale bytes of another code are no text
 export LC_ALL=C
 day=${1-}
-scripts=$(CDPATH='' cd -- "$(dirname -- "$0")" && pwd)
+# hosts have the folder by its own name, of which a part may be a link
+script=$0
+test ! -L "$script" || script=$(readlink -f -- "$script")
+scripts=$(CDPATH='' cd -- "$(dirname -- "$script")" && pwd)
 # also of a list that begins with a byte order mark, or whose lines end as those of Windows, or with blanks
 mark=$(printf '\357\273\277')
 list=$(tr -d '\r\0' 2> /dev/null < stations | sed "1s/^$mark//; s/^[[:blank:]]*//; s/[[:blank:]]*\$//" |

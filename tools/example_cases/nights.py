@@ -192,6 +192,25 @@ def try_units(room: Room) -> Outcomes:
     yield f"units {errors}", not errors
 
 
+def try_links(room: Room) -> Outcomes:
+    """Scripts that are called by links, and one without what is beside it."""
+    room.write(f"raw/{STATION}/{DAY}.rtcm3", day_log(DAY))
+    (room.folder / "links").mkdir()
+    for name in ("day.sh", "days.sh", "nightly.sh"):
+        (room.folder / "links" / name).symlink_to(EXAMPLES / name)
+    ran = room.run(f"sh links/day.sh {STATION} {DAY}")
+    yield "a link", (ran.returncode, ran.stdout, ran.stderr) == (0, b"", b"")
+    ran = room.run(f"sh links/days.sh {STATION} 0")
+    yield "a link to days.sh", ran.stdout.decode() == f"{STATION} {past_day(1)}: no log\n" and ran.stderr == b""
+    room.write("stations", STATION.encode())
+    ran = room.run(f"sh links/nightly.sh {DAY}") if has_parallel(room) else None
+    yield "a link to nightly.sh", ran is None or (ran.returncode, ran.stdout, ran.stderr) == (0, b"", b"")
+    room.write("copy/day.sh", (EXAMPLES / "day.sh").read_bytes())
+    ran = room.run(f"sh copy/day.sh {STATION} {DAY}")
+    said = f"{STATION} {DAY}: no file: {room.folder.resolve()}/copy/day-lacks.awk is missing\n"
+    yield "a copy of day.sh alone", (ran.returncode, ran.stdout.decode()) == (1, said)
+
+
 def try_usage(room: Room) -> Outcomes:
     for name in ("convert", "day", "days", "doppler", "live", "picture", "read-back"):
         ran = room.run(script(f"{name}.sh"))
