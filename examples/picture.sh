@@ -4,26 +4,40 @@
 # mean strength of each signal. Times are GPS time, in hours of the first day.
 #
 # A column of the pictures is a period of SECONDS, a divisor of a day; by default the shortest of which there are at
-# most 400. A gap is one by `rtcm2rinex check --gaps`, at the smallest step between epochs. The data are made by
+# most 400. A gap is one by `rtcm2rinex check --gaps`, at the step that most epochs have. The data are made by
 # picture-data.awk, which is in the folder of this script.
 set -eu
 : "${2:?usage: picture.sh OBS NAME [SECONDS]}"
 obs=$1 name=$2 every=${3-} part=$2.$$.part
-scripts=$(CDPATH='' cd -- "$(dirname -- "$0")" && pwd)
+scripts=$(dirname -- "$(readlink -f -- "$0")")
 # some awks read and print decimals with the comma of the locale
 export LC_ALL=C
 # it fails here if gzip does, whose status a pipe doesn't have
 gzip -cdf -- "$obs" > /dev/null
 
-# how the file is asked: its first and last second, and its step, which a clock that jitters changes
+# how the file is asked: its first and last second
 ask() { gzip -cdf -- "$obs" | rtcm2rinex "$@"; }
 times=$(ask check --times)
 first=$(date -u -d "$(echo "$times" | sed -n 's/^first //p')" +%s)
 last=$(date -u -d "$(echo "$times" | sed -n 's/^last //p')" +%s)
-step=$(echo "$times" | awk '
-    BEGIN { step = 1 }
-    $1 == "step" { step = $2 < 0.75 ? int($2 * 20 + 0.5) / 20 : int($2 + 0.5) }
-    END { print (step < 0.05 ? 0.05 : step > 86400 ? 86400 : step) }')
+# The step that most epochs have to the next one, by their times of day: one epoch off the others, as after a restart,
+# has another one. A clock that jitters changes it, so it is rounded: to 0.05 s below 0.75 s, else to 1 s.
+step=$(gzip -cdf -- "$obs" | awk '
+    $1 == ">" && NF > 3 {
+        time = 3600 * $5 + 60 * $6 + $7
+        step = time - last + (time > last ? 0 : 86400)
+        if (epochs++) number[step < 0.75 ? int(20 * step + 0.5) / 20 : int(step + 0.5)]++
+        last = time
+    }
+    END {
+        usual = 1
+        for (step in number) {
+            if (number[step] < most || number[step] == most && step + 0 > usual + 0) continue
+            most = number[step]
+            usual = step
+        }
+        print (usual + 0 < 0.05 ? 0.05 : usual)
+    }')
 for seconds in 1 2 5 10 30 60 120 300 600 900 1800 3600 7200 14400 43200 86400; do
     test "$seconds" -lt "${step%.*}" || test $((last - first)) -gt $((400 * seconds)) || break
 done

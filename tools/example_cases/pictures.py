@@ -12,7 +12,7 @@ from case_rows.quality import NOTHING, file_of, only, row
 from case_rows.quality import signal as values
 from rooms import RECORDED, TOP, Outcomes, Room, at
 
-from .common import script
+from .common import EXAMPLES, script
 from .recordings import damaged_gzip
 
 
@@ -175,6 +175,12 @@ def try_picture_files(room: Room) -> Outcomes:
     yield "seconds", ran.returncode == 0 and "set xrange [29627:29653]" in room.text("given")
     pictures = ["t-satellites.png", "t-strength.png"]
     yield "its pictures", [path.name for path in sorted(room.folder.glob("t-*"))] == pictures
+    # epochs of seconds, and one between them, as after a restart
+    rows = [row("G05", values())]
+    epochs = {at("2024-02-04") + 1000 * second: rows for second in range(90)} | {at("2024-02-04") + 30_400: rows}
+    room.write("r.obs", ("\n".join(file_of({"gps": "1C"}, dict(sorted(epochs.items())))) + "\n").encode())
+    ran = room.run(script("picture.sh", "r.obs", "r"))
+    yield "an epoch between others", ran.returncode == 0 and drawn(room)["gaps"] == ["NaN NaN"]
     # two epochs, two days apart, without a strength
     rows = [row("G05", only(c=23_000_000_000))]
     epochs = {at("2024-02-04"): rows, at("2024-02-06"): rows}
@@ -192,6 +198,9 @@ def try_picture_files(room: Room) -> Outcomes:
         ran = room.run(script("picture.sh", f"{name}.obs.gz", name))
         is_refused = ran.returncode != 0 and f"gzip: {name}.obs.gz: " in ran.stderr.decode()
         yield f"a compressed file, {name}", is_refused and not (room.folder / "given").exists()
+    (room.folder / "draw").symlink_to(EXAMPLES / "picture.sh")
+    ran = room.run("sh draw t.obs.gz linked")
+    yield "a link", ran.returncode == 0 and (room.folder / "linked-satellites.png").exists()
     require_c_locale(room)
     yield "the locale of awk", room.run(script("picture.sh", "t.obs.gz", "t")).returncode == 0
 
