@@ -33,20 +33,36 @@ check_week() {
     }
 }
 
+# A message of a time ahead makes those after it late, for as long as it is ahead.
+check_late() {
+    late=$(echo "$report" | awk '
+        { for (i = 1; i < NF; i += 2) n[$i] = $(i + 1) }
+        END { if (n["late"] > n["taken"]) print n["late"] " messages were late, and only " n["taken"] }')
+    test -z "$late" || {
+        echo "$obs: $late were taken: see LATE OBSERVATIONS of the manual page" >&2
+        exit 1
+    }
+}
+
 # The report is in a variable, as there may be no room for it on a full disk.
 convert_stream() {
     # str2str ends by these signals; its reader then writes the last epoch
     trap '' HUP INT TERM
     read -r reader
-    # an existing file isn't overwritten
+    # an existing file isn't overwritten, nor removed
+    existed=''
+    test ! -e "$obs" || existed=yes
     set -C
     # shellcheck disable=SC2086 # the shell has to split a plan into options
     if report=$(rtcm2rinex convert --near "$(date -u +%F)" --date "$(date -u '+%Y%m%d %H%M%S UTC')" \
         $plan "$@" 2>&1 > "$obs"); then
         echo "$obs: $report" >&2
         check_week
+        check_late
     else
         echo "$obs: the conversion ended with status $?: $report" >&2
+        # as after an option that is refused
+        test "$existed" || test -s "$obs" || rm -f -- "$obs"
         # str2str loses a signal that comes before it has started
         while kill "$reader" 2> /dev/null; do sleep 1; done
         exit 1

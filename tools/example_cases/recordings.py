@@ -107,6 +107,31 @@ def try_weeks(room: Room) -> Outcomes:
     yield "several weeks", (ran.returncode, ran.stderr) == (1, b"rtcm2rinex: SeveralWeeks 2300 2302\n")
 
 
+def ahead_of(moments: list[int]) -> bytes:
+    """Returns a stream of epochs at these times, after one of two days ahead of the first."""
+    station, *observed = messages_of([moments[0] + 2 * 86_400_000, *moments])
+    return stream_of([station, *observed])
+
+
+def try_ahead(room: Room) -> Outcomes:
+    """A receiver whose first message has a time ahead, as before it has found its satellites."""
+    moments = [at("2024-02-04 12:00") + 1000 * second for second in range(9)]
+    room.write("ahead.rtcm3", ahead_of(moments))
+    ran = room.run("DAY=2024-02-04 " + script("convert.sh", "ahead.rtcm3", "ahead.obs"))
+    said = "18 messages were late, and only 2 were taken: see LATE OBSERVATIONS of the manual page"
+    is_said = ran.returncode == 1 and ran.stderr.decode().splitlines()[1:] == [f"ahead.rtcm3: {said}"]
+    yield "a recording", is_said and room.has_epochs("ahead.obs", ["2024-02-06 12:00"])
+    room.write("again.rtcm3", 3 * stream_of(messages_of(moments)))
+    ran = room.run("DAY=2024-02-04 " + script("convert.sh", "again.rtcm3", "again.obs"))
+    yield "a recording that is repeated", ran.returncode == 0 and room.epochs("again.obs") == moments
+    moments = prepare_live(room)
+    room.write("live.rtcm3", ahead_of(moments))
+    (room.folder / "bin/str2str").write_text("#!/bin/sh\ncat live.rtcm3\n", encoding="ascii")
+    ran = room.run(script("live.sh", "plan", "ntrip://x", "s"))
+    said = f"{made(room)[-1]}: 8 messages were late, and only 2 were taken: see LATE OBSERVATIONS of the manual page"
+    yield "a live stream", ran.returncode == 1 and ran.stderr.decode().splitlines()[1:] == [said]
+
+
 def made(room: Room) -> list[str]:
     """Returns the names of the files of live.sh, in their order."""
     return sorted(path.name for path in room.folder.glob("s-*.obs"))
@@ -159,6 +184,17 @@ def try_live_faults(room: Room) -> Outcomes:
     yield "an empty plan", (ran.returncode, ran.stderr) == (1, b"empty: no plan\n") and len(made(room)) == number
     ran = room.run(script("live.sh", "plan", "ntrip://x", "absent/s"))
     yield "a missing folder", ran.returncode == 1 and b": the conversion ended with status " in ran.stderr
+    ran = room.run(f"sleep 1; {script('live.sh', 'plan', 'ntrip://x', 's', '--interval', '7')}")
+    is_refused = ran.returncode == 1 and b": the conversion ended with status 2: " in ran.stderr
+    yield "an option that is refused", is_refused and len(made(room)) == number
+    # another run began in the same second
+    (room.folder / "bin/date").write_text("#!/bin/sh\necho 20240204T000000Z\n", encoding="ascii")
+    (room.folder / "bin/date").chmod(0o755)
+    room.write("s-20240204T000000Z.obs", b"")
+    ran = room.run(live)
+    yield "a file that exists", ran.returncode == 1 and made(room)[0] == "s-20240204T000000Z.obs"
+    (room.folder / "s-20240204T000000Z.obs").unlink()
+    (room.folder / "bin/date").unlink()
     (room.folder / "-plan").write_bytes((room.folder / "plan").read_bytes())
     (room.folder / "bin/str2str").write_text("#!/bin/sh\ncat live.rtcm3\n", encoding="ascii")
     ran = room.run(f"sleep 1; {script('live.sh', '-plan', 'ntrip://x', 's')}")
