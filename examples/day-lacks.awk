@@ -6,6 +6,7 @@
 #   several WEEK ..             weeks of ephemerides, if there are several
 #   bytes N lost N skipped P    bytes of the day's own logs, those in no frame, and the percentage that may be
 #   own_logs N                  own logs that were converted
+#   header X Y Z                the position in the header of the file
 #   counts NAME N ..            the report of the conversion of the day's own logs
 #   report NAME N ..            that of the conversion which made the file
 #   late N                      messages of the day that are lost, as they were late
@@ -31,6 +32,7 @@ $1 == "epochs" { epochs = $2; changes = $6 }
 $1 == "complete" { at_times = $2; of_times = $4 }
 $1 == "bytes" { bytes = $2; lost_bytes = $4; may_be_lost = $6 }
 $1 == "own_logs" { own_logs = $2 }
+$1 == "header" { has_position = $2 != 0 || $3 != 0 || $4 != 0 }
 $1 == "late" { late = $2 }
 $1 == "counts" { for (i = 2; i < NF; i += 2) count[$i] = $(i + 1) }
 # those of the plan, whose channels may be from a log beside the day
@@ -74,11 +76,14 @@ function add_epochs() {
     if (changes) add(changes " changes of the position or the height")
 }
 
-# Another station than before, or another position of it. A day without a position is said once.
+# Another station than before, or another position of it, or none.
 function add_station(   is_moved) {
     is_moved = position["before"] != "none" && position["before"] != position["now"]
     if (number["before"] != "" && (number["before"] != number["now"] || is_moved))
         add("station " place("now") ", which was " place("before") " on " before)
+    else if (!has_position && !changes)
+        add("the position in the header is 0, 0, 0, as " (position["now"] == "none" ? "none was sent" : "it was sent") \
+            ": headers/ may have --position")
 }
 
 function place(at) { return number[at] (position[at] == "none" ? " without a position" : " at " position[at]) }

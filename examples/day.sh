@@ -8,8 +8,8 @@
 #                   it begins later. Files of other endings aren't read
 #   headers/STATION options of `rtcm2rinex convert`, one a line, if there is such a file: --rec-type=SEPT POLARX5. They
 #                   are the header texts and others that this script and the plan of `options` don't give; --station
-#                   is given to `options`, --marker is the name of the station if there is none, and --leap-seconds
-#                   and --glonass-channels replace those of the plan
+#                   is given to `options`, --marker is the name of the station if there is none, and --leap-seconds,
+#                   --glonass-channels, --position and --antenna-height replace those of the plan
 #   obs/STATION/    the file with its RINEX name, the values of its signals with station and position, and last, by
 #                   which days.sh knows that the day is done, the report of the conversion, unless the day isn't over
 #
@@ -30,8 +30,8 @@ scripts=$(dirname -- "$(readlink -f -- "$0")")
 #   prepare_files       made: the file; kept: the files beside it, without their endings; part, note, raw, raw_before,
 #                       raw_after: temporary files
 #   read_header         header_options: one a line; wanted: --station=..; leap, channels: the values of two options
-#   collect_logs        the day's own logs in `raw`; count: how many; left_out: names of those of another week; found:
-#                       how many both are; own: the plan of `raw`, or why it has none
+#   collect_logs        folder: that of the logs; the day's own ones in `raw`; count: how many; left_out: names of those
+#                       of another week; found: how many both are; own: the plan of `raw`, or why it has none
 #   choose_logs_beside  earlier, later: raw_before and raw_after, if the file is also made of these ends of the logs
 #                       beside the day; previous: the signals of the latest day before; position: that of `own`; ends:
 #                       the plan of the end of `raw`, or why it has none
@@ -67,17 +67,12 @@ plain() {
 # shellcheck disable=SC2086 # there may be no station
 options() { rtcm2rinex options "$@" $wanted 2>&1; }
 plan_of_day() { options --near "$day"; }
-# what a plan has of these
-position_of() {
-    case $1 in
-    *--position=*) set -- "${1##*--position=}" && echo "${1%% *}" ;;
-    esac
+# Prints the value of an option of a plan.
+value_of() {
+    case $2 in *"$1"[=\ ]*) set -- "${2##*"$1"[= ]}" && echo "${1%% *}" ;; esac
 }
-channels_of() {
-    case $1 in
-    *--glonass-channels*) set -- "${1##*--glonass-channels }" && echo "${1%% *}" ;;
-    esac
-}
+position_of() { value_of --position "$1"; }
+channels_of() { value_of --glonass-channels "$1"; }
 # Prints the weeks of the ephemerides of a stream, if there are several.
 several_weeks() {
     set -- "$(options --week)"
@@ -281,11 +276,27 @@ on_logs() {
     fi
 }
 
+# Prints the height of the antenna of a station that sends 1005 and 1006 by turns, the 1005 first.
+later_height() {
+    case $plan in *" --antenna-height "*) return ;; *" --position="*) ;; *) return ;; esac
+    head -c "$end_size" "$raw" | rtcm2rinex show 2> /dev/null | awk -v own="${wanted#--station=}" '
+        own != "" && own != $3 { next }
+        $2 == 1006 && NF == 7 && height == "" { height = $7 }
+        $2 == 1005 && NF == 6 && height != "" { print height; exit }'
+}
+# Takes an option of headers/ out of the plan.
+leave_out() {
+    case $newline$header_options in *"$newline$1="*) plan=$(echo "$plan" | sed "s/ $1[= ][^ ]*//") ;; esac
+}
 # The options that fit the logs, with the first channel that the day's own logs have for a slot of GLONASS.
 make_plan() {
     plan=$own
     ! has_neighbour || plan=$(on_logs plan_of_day) || :
     case $plan in --*) ;; *) errors=$plan && return 1 ;; esac
+    height=$(later_height)
+    plan="$plan${height:+ --antenna-height $height}"
+    leave_out --position
+    leave_out --antenna-height
     test -z "$leap" || plan=$(echo "$plan" | sed "s/--leap-seconds [0-9]*/--leap-seconds $leap/")
     list=${channels:-$(printf '%s\n' "$(channels_of "$own")" "$(channels_of "$plan")" | tr ',' '\n' | awk -F : '
         NF == 2 && !had[$1]++ { printf "%s%s", comma, $0; comma = "," }')}
@@ -308,6 +319,7 @@ convert() {
     make_plan || return 1
     report=$(on_logs convert_to "$1") || { errors=$report && return 1; }
 }
+# Converts without the logs beside the day, which later calls read again if this is called in a subshell.
 alone() { has_neighbour && earlier='' later='' && convert "$1"; }
 check_file() { rtcm2rinex check --gaps 30 --from "$day" --until "$after" < "$1" 2>&1; }
 epochs_in() { echo "$1" | sed -n 's/^epochs \([0-9]*\) .*/\1/p'; }
@@ -366,9 +378,8 @@ lost_bytes() {
 # those with other numbers of satellites, signals and cells are told apart, and others aren't.
 late_messages() {
     case $report in *" late 0 "*) echo 0 && return ;; esac
-    offset=${plan##*--leap-seconds }
-    test "$offset" != "$plan" || offset=18
-    on_logs rtcm2rinex show --all | awk -v own="${wanted#--station=}" -v leap="${offset%% *}" -v weekday="$weekday" \
+    offset=$(value_of --leap-seconds "$plan")
+    on_logs rtcm2rinex show --all | awk -v own="${wanted#--station=}" -v leap="${offset:-18}" -v weekday="$weekday" \
         -v week=604800000 -v day=86400000 "$msm"'
         own != "" && $3 != own { next }
         is_msm() && !seen[$2, $3, $4, $5, $6, $7, $8]++ {
@@ -418,12 +429,12 @@ facts() (
     set -f
     size=$(wc -c < "$raw")
     test -z "$early" || echo "early $early"
-    set -- left_out $left_out
-    test -z "$left_out" || printf '%s\n' "$*"
+    test -z "$left_out" || printf '%s\n' "left_out$left_out"
     printf '%s\n' "$gaps" "$signals"
     echo "several $(weeks_of_logs)"
     echo "bytes $size lost $(lost_bytes) skipped ${SKIPPED:-1}"
     echo "own_logs $count"
+    echo "header $(sed -n '/^.\{60\}APPROX POSITION XYZ/ { s/ *APPROX POSITION XYZ.*//p; q; }' "$part")"
     echo "counts $(own_report)"
     echo "report $report"
     echo "late $(late_messages)"

@@ -155,7 +155,7 @@ def try_lists(room: Room) -> Outcomes:
     # the scripts and the days in folders with a blank, of which the first is found by CDPATH, too
     (room.folder / "the scripts").mkdir()
     (room.folder / "the days").mkdir()
-    for name in ("nightly.sh", "days.sh", "day.sh"):
+    for name in ("nightly.sh", "days.sh", "day.sh", "day-lacks.awk"):
         shutil.copy(EXAMPLES / name, room.folder / "the scripts")
     for folder in (".", "the days"):
         room.write(f"{folder}/stations", b"KIRU00SWE\n")

@@ -5,7 +5,7 @@ from reference_impl import stream
 from reference_impl.fields import packed
 from reference_impl.messages import WEEK
 from reference_impl.stream import Form
-from rooms import Outcomes, Room, at, messages_of, stream_of
+from rooms import Outcomes, Room, at, messages_of, station_message, stream_of
 
 from .common import AFTER, BEFORE, DAY, EPOCHS, MADE, STATION, STEP, body_of, day_messages, header_of, script
 from .days import ELSEWHERE, HEADERS, LOG, clear, elsewhere, says, says_of
@@ -21,8 +21,8 @@ def times(first: int, end: int, later: int = 0) -> list[int]:
 
 
 def joined(*logs: list[bytes]) -> bytes:
-    """Returns the log of messages that come by turns, those of the same epoch after each other."""
-    return stream_of([message for group in zip(*logs) for message in group])
+    """Returns the log of a 1005, and of messages that come by turns, those of the same epoch after each other."""
+    return stream_of([station_message(), *(message for group in zip(*logs) for message in group)])
 
 
 def of_channels(first: int, last: int, moments: list[int]) -> list[bytes]:
@@ -128,6 +128,41 @@ def try_beside(room: Room) -> Outcomes:
     room.write(after, elsewhere(day_messages(AFTER)))
     said = says(room, ": station 2003 without a position, which was 2003 at ")
     yield "the position of another one", said and f"{ELSEWHERE[0] / 10_000:.4f}" not in header_of(room.text(MADE))
+
+
+def with_height(message: bytes, height: int) -> bytes:
+    """Returns the 1006 with the fields of a 1005, and a height in 0.0001 m."""
+    fields = int.from_bytes(message, "big") & (1 << 140) - 1
+    return ((1006 << 140 | fields) << 16 | height).to_bytes(21, "big")
+
+
+def try_positions(room: Room) -> Outcomes:
+    station, *observed = day_messages(DAY)
+    said = ": the position in the header is 0, 0, 0, as none was sent: headers/ may have --position$"
+    yield "no position", says_of(room, stream_of(observed), said) and says(room, said)
+    zero = stream_of([station_message((0, 0, 0)), *observed])
+    yield "a position of zeros", says_of(room, zero, said.replace("none was", "it was"))
+    given = b"--position=4027881.7,330680,4919912.2\n--comment=0 0 APPROX POSITION XYZ\n"
+    room.write(HEADERS, given)
+    is_given = says_of(room, stream_of(observed)) and "4027881.7000" in header_of(room.text(MADE))
+    yield "a position of the options", is_given and says_of(room, stream_of([station, *observed]))
+    room.write(HEADERS, given.splitlines()[1])
+    yield "a comment with the label of a position", says_of(room, stream_of(observed), said)
+    (room.folder / HEADERS).unlink()
+
+
+def try_heights(room: Room) -> Outcomes:
+    """A station that sends 1005 and 1006 by turns, the 1005 first, and one whose height changes once."""
+    station, *observed = day_messages(DAY)
+    higher = with_height(station, 15_000)
+    log = stream_of([station, *observed[:100], higher, *observed[100:200], station, *observed[200:]])
+    is_made = says_of(room, log) and "        1.5000" in header_of(room.text(MADE))
+    yield "a height after the position", is_made and "\n>  " not in room.text(MADE)
+    room.write(HEADERS, b"--antenna-height=1.5\n--comment=--antenna-height 2\n")
+    yield "a height of the options", says(room) and "        1.5000" in header_of(room.text(MADE))
+    (room.folder / HEADERS).unlink()
+    once = stream_of([station, *observed[:100], higher, *observed[100:]])
+    yield "a height that changes", says_of(room, once, ": 1 changes of the position or the height$")
 
 
 def try_words(room: Room) -> Outcomes:
