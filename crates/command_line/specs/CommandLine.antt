@@ -143,7 +143,8 @@ abbrev pub IsProgram : App → Type 0
 IsProgram a = (forms : Choices) × (rules : Choices) × AreChoices (codes "4,7" ∷ codes "all" ∷ []) forms
     × AreChoices (codes "bit" ∷ codes "time" ∷ []) rules × (a ≡ program forms rules)
 
--- the output of `--version`: the name, the version, and the kit that proves and builds it, as `rt version` prints it
+-- the output of `--version`: the name, the version, and the toolchain that proves and builds it, as `rt version`
+-- prints it
 abbrev pub version_line : Text
 version_line = codes "rtcm2rinex 1.4.0 (rattle-kit-13f logic dac8208d650f15bf)" ++ 0x0A ∷ []
 

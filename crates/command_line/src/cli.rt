@@ -11,7 +11,7 @@ use crate::commands::{CommandRow, OptionRow, program_rows};
 use clap::{Arg, ArgMatches, Command, Error};
 use std::alloc::{AllocError, Global};
 
-/// The name, the version, and the kit that it is proved and built with, as `rt version` prints it.
+/// The name, the version, and the toolchain that proves and builds it, as `rt version` prints it.
 pub const VERSION: &str = "rtcm2rinex 1.4.0 (rattle-kit-13f logic dac8208d650f15bf)\n";
 
 /// Parses the words of the command line, the first of which is the program's name.

@@ -73,8 +73,8 @@ pub fn glonass_time()
     ensures { IsGlonassTime }
 {}
 
-/// A message that is not the first is at the next time with its time of week, from the greatest time
-/// on, unless it is late.
+/// The milliseconds from a time to the next one with a time of week, by which messages after the
+/// first one are dated, are less than a week, and the sum has this time of week.
 #[tactic(auto, using(crate::proofs::TimeLawLemmas::next_time))]
 pub fn next_time()
     ensures { IsNextTime }

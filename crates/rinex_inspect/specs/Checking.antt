@@ -35,7 +35,8 @@ abbrev pub IsOtherDay : Option Completeness → List Stamped → (k : ℕ) → L
 IsOtherDay complete es k input = (t : ℕ) × (is_inside complete t ≡ false) × AreInside complete (times_in es)
     × IsEpochLine es t k input
 
--- between these epochs and the fault no epoch was begun, or one that is inside
+-- between these epochs and the line of the fault no epoch was begun, or one that is inside; of a failed read, which has
+-- no line, it says nothing
 abbrev pub IsNextInside : Option Completeness → List Stamped → ReadFault → List ℕ → Type 0
 IsNextInside complete es e input =
     AreWholeBefore es e input ⊎ ((t n : ℕ) × (is_inside complete t ≡ true) × IsEpochLine es t n input)

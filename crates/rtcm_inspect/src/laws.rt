@@ -56,9 +56,10 @@ pub fn near()
 /// the counted one, after the begin of its start week. So if an ephemeris says which GPS week was
 /// counted as week 0, a conversion that starts in it is in the week of the ephemeris, when this comes.
 ///
-/// The week counted as week 0 and the weeks counted are the week of the ephemeris. The time of the
-/// first MSM is the one with its time of week that is nearest to the greatest time at it; this
-/// exists if an ephemeris says a week.
+/// The week counted as week 0 plus the weeks counted is the week of the ephemeris, or congruent to
+/// it modulo 1,024. From half a week after the begin of week 0 on, the time of the first MSM is the
+/// one with its time of week that is nearest to the greatest time at it; this exists if an ephemeris
+/// says a week.
 pub fn week()
     ensures counted { IsCountedFromStart }
     ensures sent { IsInSentWeek }
